@@ -1,0 +1,53 @@
+-- What a check that was passed tells, and the refusal that a check hands on.
+use Prim.Native.Nat.{ℕ, _≤_}
+use mathlib.Core.Path.{_≡_, refl, sym, ap, _∙_}
+use mathlib.Core.Bool.{Bool, true, false, _&&_}
+use lib.Dec.{leb}
+use borrow.Author.Tests.{leb-true}
+use Rattle.units.specs.declared.Check.{Check}
+use Rattle.units.specs.declared.Check.the-variants as check
+use Rattle.units.specs.Refusals.{bothChecks, refusalOf}
+use Rattle.quorum.specs.Limits.{voterLimit, rowLimit}
+use Rattle.quorum.specs.Ids.{distinct, fineIf}
+use Rattle.quorum.specs.Rows.{idsOf, plainCheck}
+use Rattle.quorum.specs.Voters.{votersOf, votersCheck}
+use Rattle.quorum.specs.Joint.{configCheck}
+use Rattle.quorum.specs.declared.majority.Voters.{Voters}
+use Rattle.quorum.specs.declared.rows.Rows.{Rows}
+use Rattle.quorum.specs.declared.joint.JointConfig.{JointConfig}
+
+pub fine-true : (b : Bool) → fineIf b ≡ check.Fine → b ≡ true
+fine-true true e = refl
+fine-true false e = cc
+
+left-true : (a b : Bool) → a && b ≡ true → a ≡ true
+left-true true b e = refl
+left-true false b e = e
+
+within-limit : (count limit : ℕ) (b : Bool) → fineIf (leb count limit && b) ≡ check.Fine → count ≤ limit
+within-limit count limit b e = leb-true count limit (left-true (leb count limit) b (fine-true (leb count limit && b) e))
+
+pub first-fine : (a b : Check) → bothChecks a b ≡ check.Fine → a ≡ check.Fine
+first-fine check.Fine b e = refl
+first-fine (check.Refused n) b e = cc
+
+pub second-fine : (a b : Check) → bothChecks a b ≡ check.Fine → b ≡ check.Fine
+second-fine check.Fine b e = e
+second-fine (check.Refused n) b e = cc
+
+pub voters-within : (v : Voters) → votersCheck v ≡ check.Fine → v .count ≤ voterLimit
+voters-within v e = within-limit (v .count) voterLimit (distinct (votersOf v)) e
+
+pub rows-within : (r : Rows) → plainCheck r ≡ check.Fine → r .count ≤ rowLimit
+rows-within r e = within-limit (r .count) rowLimit (distinct (idsOf r)) e
+
+-- of both halves
+pub incoming-within : (c : JointConfig) → configCheck c ≡ check.Fine → c .incoming .count ≤ voterLimit
+incoming-within c e = voters-within (c .incoming) (first-fine (votersCheck (c .incoming)) (votersCheck (c .outgoing)) e)
+
+pub outgoing-within : (c : JointConfig) → configCheck c ≡ check.Fine → c .outgoing .count ≤ voterLimit
+outgoing-within c e = voters-within (c .outgoing) (second-fine (votersCheck (c .incoming)) (votersCheck (c .outgoing)) e)
+
+-- The refusal that a check hands on: `told` is what the check answered, `number` what was read off it.
+pub handed-on : (k told : Check) (n number : ℕ) → told ≡ k → told ≡ check.Refused n → number ≡ refusalOf told → k ≡ check.Refused number
+handed-on k told n number e f g = sym e ∙ f ∙ ap check.Refused (sym (g ∙ ap refusalOf f))

@@ -1,0 +1,14 @@
+pub mod IdLaws
+pub mod Checks
+pub mod Padded
+pub mod Sizes
+pub mod Copying
+pub mod Sinking
+pub mod Sorting
+pub mod Listing
+pub mod Values
+pub mod Answers
+pub mod Gathered
+pub mod Words
+pub mod Calls
+pub mod Thin

@@ -1,0 +1,102 @@
+-- `majority::committed_index_of` meets its contract: the checks, and then what the one half says.
+use native.Mathlib.Omega.{arith}
+use mathlib.Core.Path.{_≡_, sym, _∙_}
+use Prim.Native.Nat.{_≤_}
+use lib.ListN.{length}
+use borrow.Author.Needs.{needs}
+use Rattle.quorum.proofs.majority.committed_index_of.Statement.{statement}
+use Rattle.quorum.proofs.majority.committed_index_of.Tie as tie
+use lib.Seq.{length-take-le}
+use Rattle.units.specs.Refusals.{bothChecks}
+use Rattle.units.specs.declared.Check.the-variants as check
+use Rattle.quorum.specs.Limits.{voterLimit, rowLimit}
+use Rattle.quorum.specs.Rows.{plainCheck}
+use Rattle.quorum.specs.Voters.{votersCheck}
+use Rattle.quorum.proofs.Sizes.{row-ids-length, row-values-length}
+use Rattle.quorum.proofs.Checks.{handed-on, first-fine, second-fine, rows-within, voters-within}
+use Rattle.quorum.proofs.Answers.{checks-made, index-refused, index-at}
+
+abbrev Asked : Type 0
+Asked = tie.After-and
+
+abbrev start : Asked → tie.Start
+start c = c .before .before .before
+
+made : (c : Asked) → c .and .result ≡ bothChecks (votersCheck (start c .args .voters)) (plainCheck (start c .args .rows))
+made c = checks-made _ _ _ _ _ (c .and .ensures) (c .before .before .checked .ensures) (c .before .checked2 .ensures)
+
+-- what is known once the checks are passed
+abbrev Passed : Type 0
+Passed = tie.After-enum-told
+
+fine : (c : Passed) → bothChecks (votersCheck (start (c .before .before) .args .voters)) (plainCheck (start (c .before .before) .args .rows)) ≡ check.Fine
+fine c = sym (made (c .before .before)) ∙ c .enum-told .given .1
+
+voters-fit : (c : Passed) → start (c .before .before) .args .voters .count ≤ voterLimit
+voters-fit c = voters-within (start (c .before .before) .args .voters) (first-fine (votersCheck (start (c .before .before) .args .voters)) (plainCheck (start (c .before .before) .args .rows)) (fine c))
+
+rows-fit : (c : Passed) → start (c .before .before) .args .rows .count ≤ rowLimit
+rows-fit c = rows-within (start (c .before .before) .args .rows) (second-fine (votersCheck (start (c .before .before) .args .voters)) (plainCheck (start (c .before .before) .args .rows)) (fine c))
+
+ids-fit : (c : Passed) → start (c .before .before) .args .rows .count ≤ length (start (c .before .before) .args .rows .ids)
+ids-fit c = omega (arith, rows-fit c, row-ids-length (start (c .before .before) .args .rows) (start (c .before .before) .good .1 .0))
+
+values-fit : (c : Passed) → start (c .before .before) .args .rows .count ≤ length (start (c .before .before) .args .rows .values)
+values-fit c = omega (arith, rows-fit c, row-values-length (start (c .before .before) .args .rows) (start (c .before .before) .good .1 .0))
+
+checked-requires : tie.Need-checked-requires
+checked-requires c κs = search needs
+
+checked-requires-2 : tie.Need-checked-requires-2
+checked-requires-2 c κs = search needs
+
+and-requires : tie.Need-and-requires
+and-requires c κs = search needs
+
+enum-told : tie.Need-enum-told
+enum-told c = search needs
+
+enum-told-2 : tie.Need-enum-told-2
+enum-told-2 c = search needs
+
+refusal-requires : tie.Need-refusal-requires
+refusal-requires c κs = search needs
+
+returns : tie.Need-returns
+returns c = let asked = c .before .before .before in index-refused (start asked .args .voters) (start asked .args .rows) (c .refusal .result) (handed-on _ _ _ _ (made asked) (c .before .enum-told2 .given .1) (c .refusal .ensures))
+
+array-share-prefix-ids : tie.Need-array-share-prefix-ids
+array-share-prefix-ids c = ids-fit (c .before .before)
+
+slice-aggregate-committed-index : tie.Need-slice-aggregate-committed-index
+slice-aggregate-committed-index c = sym (length-take-le _ _ (ids-fit (c .before .before .before)))
+
+array-share-prefix-values : tie.Need-array-share-prefix-values
+array-share-prefix-values c = values-fit (c .before .before .before)
+
+slice-aggregate-committed-index-2 : tie.Need-slice-aggregate-committed-index-2
+slice-aggregate-committed-index-2 c = sym (length-take-le _ _ (values-fit (c .before .before .before .before)))
+
+committed-index-requires : tie.Need-committed-index-requires
+committed-index-requires c κs = voters-fit (c .before .before .before .before)
+
+returns-2 : tie.Need-returns-2
+returns-2 c = let asked = c .before .before .before .before .before .before .before in index-at (start asked .args .voters) (start asked .args .rows) (c .committed-index .result) (fine (c .before .before .before .before .before)) (c .committed-index .ensures)
+
+pub committed-index-of-spec : {M : Type 1} → statement M
+committed-index-of-spec =
+    tie.close
+    (tie.spec
+    checked-requires
+    checked-requires-2
+    and-requires
+    enum-told
+    enum-told-2
+    refusal-requires
+    returns
+    array-share-prefix-ids
+    slice-aggregate-committed-index
+    array-share-prefix-values
+    slice-aggregate-committed-index-2
+    committed-index-requires
+    returns-2)

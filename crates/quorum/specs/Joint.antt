@@ -1,0 +1,96 @@
+-- The joint configuration (joint.rs): two voter sets, incoming and outgoing. A reader must know: each question is asked of both halves, and a broken half or broken rows are refusal 12.
+use Prim.Native.Nat.{ℕ}
+use mathlib.Core.Bool.{Bool, true, false, _&&_, _||_}
+use mathlib.Core.List.{List, [], _∷_, _++_}
+use lib.ListN.{length, take, set}
+use lib.Dec.{eqb}
+use Prim.Native.Nat.{suc, _+_}
+use Rattle.units.specs.Refusals.{bothChecks}
+use Rattle.units.specs.declared.Check.{Check}
+use Rattle.units.specs.declared.Check.the-variants as check
+use Rattle.rules.specs.Majority.{falling}
+use Rattle.quorum.specs.Limits.{idLimit}
+use Rattle.quorum.specs.Ids.{has, padded}
+use Rattle.quorum.specs.Rows.{rowsCheck, plainCheck}
+use Rattle.quorum.specs.Voters.{votersOf, votersCheck, noVoters}
+use Rattle.quorum.specs.Votes.{resultOf, jointResult}
+use Rattle.quorum.specs.Half.{halfIndex, joined, numbersResult}
+use Rattle.quorum.specs.Majority.{indexUnless, resultUnless, acksOf, votesOf, plainValues}
+use Rattle.quorum.specs.declared.Committed.{Committed}
+use Rattle.quorum.specs.declared.Verdict.{Verdict}
+use Rattle.quorum.specs.declared.majority.Voters.{Voters}
+use Rattle.quorum.specs.declared.joint.JointConfig.{JointConfig}
+use Rattle.quorum.specs.declared.joint.Answer.{Answer}
+use Rattle.quorum.specs.declared.joint.Answer.the-variants as answer
+use Rattle.quorum.specs.declared.joint.Ids.{Ids}
+use Rattle.quorum.specs.declared.rows.Peer.{Peer}
+use Rattle.quorum.specs.declared.rows.Rows.{Rows}
+
+-- A configuration of one set: nobody is outgoing.
+abbrev pub oneSet : Voters → JointConfig
+oneSet v = record { incoming = v; outgoing = noVoters }
+
+-- Refusal 12 of a configuration: of either half.
+abbrev pub configCheck : JointConfig → Check
+configCheck c = bothChecks (votersCheck (c .incoming)) (votersCheck (c .outgoing))
+
+-- THE PROMISE of `committed_index`.
+unfoldable pub jointIndex : JointConfig → List Peer → Committed
+jointIndex c peers = indexUnless (bothChecks (configCheck c) (rowsCheck peers)) (joined (halfIndex (acksOf peers (c .incoming))) (halfIndex (acksOf peers (c .outgoing))))
+
+-- THE PROMISE of `vote_result`.
+unfoldable pub jointVerdict : JointConfig → List Peer → Verdict
+jointVerdict c peers = resultUnless (bothChecks (configCheck c) (rowsCheck peers)) (jointResult (resultOf (votesOf peers (c .incoming))) (resultOf (votesOf peers (c .outgoing))))
+
+-- The same over gathered rows.
+unfoldable pub plainJointIndex : JointConfig → Rows → Committed
+plainJointIndex c r = indexUnless (bothChecks (configCheck c) (plainCheck r)) (joined (halfIndex (plainValues r (c .incoming))) (halfIndex (plainValues r (c .outgoing))))
+
+unfoldable pub plainJointVerdict : JointConfig → Rows → Verdict
+plainJointVerdict c r = resultUnless (bothChecks (configCheck c) (plainCheck r)) (jointResult (numbersResult (plainValues r (c .incoming))) (numbersResult (plainValues r (c .outgoing))))
+
+-- Document 01's values for each case of a yes-or-no answer.
+abbrev pub isUnless : Check → Bool → Answer
+isUnless check.Fine b = answer.Is b
+isUnless (check.Refused n) b = answer.Refused n
+
+-- THE PROMISE of `is_singleton`: one incoming voter, and nobody outgoing.
+abbrev pub singleton : JointConfig → Answer
+singleton c = isUnless (configCheck c) (eqb (c .outgoing .count) 0 && eqb (c .incoming .count) 1)
+
+-- THE PROMISE of `contains`: a voter of either half.
+abbrev pub containsOf : JointConfig → ℕ → Answer
+containsOf c id = isUnless (configCheck c) (has id (votersOf (c .incoming)) || has id (votersOf (c .outgoing)))
+
+-- THE PROMISE of `ids`. 01, Joint: "the ids of both, each once. We list ids in rising order".
+-- One id more at the end, where it is not there yet.
+abbrev pub one-more-unless : Bool → List ℕ → ℕ → List ℕ
+one-more-unless true ids id = ids
+one-more-unless false ids id = ids ++ (id ∷ [])
+
+-- A list that falls, turned round, each once.
+unfoldable pub rising : List ℕ → List ℕ
+rising [] = []
+rising (x ∷ xs) = one-more-unless (has x (rising xs)) (rising xs) x
+
+unfoldable pub bothIds : JointConfig → List ℕ
+bothIds c = rising (falling (votersOf (c .incoming) ++ votersOf (c .outgoing)))
+
+-- A list of ids as the answer holds it, unused words 0; a refusal lists none.
+abbrev pub listed : Check → List ℕ → Ids
+listed k ids = record { check = k; ids = padded idLimit ids; count = length ids }
+
+-- One step of listing: the id after those listed, where it is not there yet.
+abbrev pub withIdUnless : Bool → Ids → ℕ → Ids
+withIdUnless true s id = s
+withIdUnless false s id = record { check = s .check; ids = set (s .ids) (s .count) id; count = s .count + 1 }
+
+abbrev pub withId : Ids → ℕ → Ids
+withId s id = withIdUnless (has id (take (s .count) (s .ids))) s id
+
+abbrev pub listedUnless : Check → List ℕ → Ids
+listedUnless check.Fine ids = listed check.Fine ids
+listedUnless (check.Refused n) ids = listed (check.Refused n) []
+
+abbrev pub idsAnswer : JointConfig → Ids
+idsAnswer c = listedUnless (configCheck c) (bothIds c)

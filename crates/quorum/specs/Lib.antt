@@ -1,0 +1,9 @@
+pub mod Limits
+pub mod Ids
+pub mod Sort
+pub mod Rows
+pub mod Voters
+pub mod Votes
+pub mod Half
+pub mod Majority
+pub mod Joint

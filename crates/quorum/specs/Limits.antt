@@ -1,0 +1,14 @@
+-- The limits of document 01, each once: 31 and 128 go here and into `Voters::LIMIT` and `Rows::LIMIT` of the source, and nowhere else.
+use Prim.Native.Nat.{ℕ, _+_}
+
+-- 01, Majority: "A voter set of 0 to 7 different ids."
+abbrev pub voterLimit : ℕ
+voterLimit = 7
+
+-- 01, "State and stores": "a lent list of peer rows, at most 64".
+abbrev pub rowLimit : ℕ
+rowLimit = 64
+
+-- The ids of both halves of a joint configuration.
+abbrev pub idLimit : ℕ
+idLimit = voterLimit + voterLimit

@@ -1,0 +1,55 @@
+-- The quorum questions of one voter set (majority.rs). A reader must know: an answer is refusal 12 where the set or the rows are broken, else what one half says of its voters' rows.
+use Prim.Native.Nat.{ℕ}
+use mathlib.Core.List.{List, map}
+use Rattle.units.specs.Units.{indexOf}
+use Rattle.units.specs.Refusals.{bothChecks}
+use Rattle.units.specs.declared.Check.{Check}
+use Rattle.units.specs.declared.Check.the-variants as check
+use Rattle.quorum.specs.Rows.{rowOf, ackNumber, rowsCheck, idsOf, valuesOf, plainCheck}
+use Rattle.quorum.specs.Voters.{votersOf, votersCheck}
+use Rattle.quorum.specs.Votes.{resultOf}
+use Rattle.quorum.specs.Half.{halfIndex, valueIn, numbersResult}
+use Rattle.quorum.specs.declared.Committed.{Committed}
+use Rattle.quorum.specs.declared.Committed.the-variants as answer
+use Rattle.quorum.specs.declared.Verdict.{Verdict}
+use Rattle.quorum.specs.declared.Verdict.the-variants as verdict
+use Rattle.quorum.specs.declared.VoteResult.{VoteResult}
+use Rattle.quorum.specs.declared.half.Half.{Half}
+use Rattle.quorum.specs.declared.majority.Voters.{Voters}
+use Rattle.quorum.specs.declared.rows.Peer.{Peer}
+use Rattle.quorum.specs.declared.rows.Rows.{Rows}
+use Rattle.quorum.specs.declared.rows.Vote.{Vote}
+
+-- Document 01's values for each case of the two answers: the refusal's number alone, or the index with its flag; or how the vote stands.
+abbrev pub indexUnless : Check → Half → Committed
+indexUnless check.Fine h = answer.At (indexOf (h .index)) (h .free)
+indexUnless (check.Refused n) h = answer.Refused n
+
+abbrev pub resultUnless : Check → VoteResult → Verdict
+resultUnless check.Fine r = verdict.Stands r
+resultUnless (check.Refused n) r = verdict.Refused n
+
+-- What each voter of a set has acknowledged, and how each has voted, by the lent rows.
+abbrev pub acksOf : List Peer → Voters → List ℕ
+acksOf peers v = map (λ id. ackNumber (rowOf peers id .ack)) (votersOf v)
+
+abbrev pub votesOf : List Peer → Voters → List Vote
+votesOf peers v = map (λ id. rowOf peers id .vote) (votersOf v)
+
+-- THE PROMISE of `committed_index`.
+unfoldable pub committedIndex : Voters → List Peer → Committed
+committedIndex v peers = indexUnless (bothChecks (votersCheck v) (rowsCheck peers)) (halfIndex (acksOf peers v))
+
+-- THE PROMISE of `vote_result`.
+unfoldable pub voteResult : Voters → List Peer → Verdict
+voteResult v peers = resultUnless (bothChecks (votersCheck v) (rowsCheck peers)) (resultOf (votesOf peers v))
+
+-- The same questions over gathered rows: what each voter's value is.
+abbrev pub plainValues : Rows → Voters → List ℕ
+plainValues r v = map (valueIn (idsOf r) (valuesOf r)) (votersOf v)
+
+unfoldable pub plainIndex : Voters → Rows → Committed
+plainIndex v r = indexUnless (bothChecks (votersCheck v) (plainCheck r)) (halfIndex (plainValues r v))
+
+unfoldable pub plainResult : Voters → Rows → Verdict
+plainResult v r = resultUnless (bothChecks (votersCheck v) (plainCheck r)) (numbersResult (plainValues r v))

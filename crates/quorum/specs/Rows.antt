@@ -1,0 +1,63 @@
+-- Peer rows. A reader must know: a quorum question reads the rows through `rowOf`, the row of a voter by its id; a voter without a row is missing everywhere.
+use Prim.Native.Nat.{ℕ}
+use mathlib.Core.Bool.{Bool, _&&_}
+use mathlib.Core.List.{List, [], _∷_, map}
+use lib.ListN.{length, getD, take}
+use lib.Dec.{leb}
+use Rattle.units.specs.declared.Index.{Index}
+use Rattle.units.specs.declared.Check.{Check}
+use Rattle.quorum.specs.Limits.{rowLimit}
+use Rattle.quorum.specs.Ids.{position, distinct, fineIf, padded}
+use Rattle.quorum.specs.declared.rows.Ack.{Ack}
+use Rattle.quorum.specs.declared.rows.Ack.the-variants as ack
+use Rattle.quorum.specs.declared.rows.Vote.{Vote}
+use Rattle.quorum.specs.declared.rows.Vote.the-variants as vote
+use Rattle.quorum.specs.declared.rows.Peer.{Peer}
+use Rattle.quorum.specs.declared.rows.Question.{Question}
+use Rattle.quorum.specs.declared.rows.Question.the-variants as question
+use Rattle.quorum.specs.declared.rows.Rows.{Rows}
+
+-- 01: "a voter without a row is missing everywhere": the row that such a voter reads.
+abbrev pub nobody : Peer
+nobody = record { id = 0; ack = ack.Missing; vote = vote.Missing }
+
+abbrev pub idOf : Peer → ℕ
+idOf p = p .id
+
+-- The row of an id: the first that has it, nobody's where none has.
+abbrev pub rowOf : List Peer → ℕ → Peer
+rowOf peers id = getD peers (position id (map idOf peers)) nobody
+
+-- 01, Majority: "a missing one counts as 0".
+abbrev pub ackNumber : Ack → ℕ
+ackNumber ack.Missing = 0
+ackNumber (ack.At index) = index .0
+
+-- A vote as a number, for the gathered rows: 0 missing, 1 yes, 2 no.
+abbrev pub voteNumber : Vote → ℕ
+voteNumber vote.Missing = 0
+voteNumber vote.Yes = 1
+voteNumber vote.No = 2
+
+-- Refusal 12 of the rows: "over 64 rows, a repeated row id".
+abbrev pub rowsCheck : List Peer → Check
+rowsCheck peers = fineIf (leb (length peers) rowLimit && distinct (map idOf peers))
+
+-- What a question reads of a row, as a number.
+abbrev pub valueFor : Question → Peer → ℕ
+valueFor question.Index p = ackNumber (p .ack)
+valueFor question.Vote p = voteNumber (p .vote)
+
+-- The rows laid into two arrays for one question; `count` is how many there were, also where they did not fit.
+abbrev pub gathered : Question → List Peer → Rows
+gathered q peers = record { ids = padded rowLimit (map idOf peers); values = padded rowLimit (map (valueFor q) peers); count = length peers }
+
+-- The ids, and the values beside them, of rows in arrays; and refusal 12 of them.
+abbrev pub idsOf : Rows → List ℕ
+idsOf r = take (r .count) (r .ids)
+
+abbrev pub valuesOf : Rows → List ℕ
+valuesOf r = take (r .count) (r .values)
+
+abbrev pub plainCheck : Rows → Check
+plainCheck r = fineIf (leb (r .count) rowLimit && distinct (idsOf r))

@@ -1,0 +1,36 @@
+-- A voter set: an array of ids with a count. A reader must know: the voters are the first `count` ids; the set is broken (refusal 12) where the count is over the limit or an id repeats.
+use Prim.Native.Nat.{ℕ}
+use mathlib.Core.Bool.{Bool, true, false, _&&_}
+use mathlib.Core.List.{List, []}
+use lib.ListN.{length, take}
+use lib.Dec.{leb}
+use Rattle.units.specs.declared.Check.{Check}
+use Rattle.units.specs.declared.Check.the-variants as check
+use Rattle.units.specs.Refusals.{brokenSet}
+use Rattle.quorum.specs.Limits.{voterLimit}
+use Rattle.quorum.specs.Ids.{distinct, fineIf, padded}
+use Rattle.quorum.specs.declared.majority.Voters.{Voters}
+use Rattle.quorum.specs.declared.majority.Made.{Made}
+
+-- The ids of a voter set.
+abbrev pub votersOf : Voters → List ℕ
+votersOf v = take (v .count) (v .ids)
+
+-- Refusal 12 of a voter set: "over 7 voters, a repeated voter id".
+abbrev pub votersCheck : Voters → Check
+votersCheck v = fineIf (leb (v .count) voterLimit && distinct (votersOf v))
+
+-- The set of a list of ids, and the empty set: unused words are 0.
+abbrev pub setOf : List ℕ → Voters
+setOf ids = record { ids = padded voterLimit ids; count = length ids }
+
+abbrev pub noVoters : Voters
+noVoters = setOf []
+
+-- What the constructor answers: the set, or refusal 12 beside the empty set.
+abbrev pub madeIf : Bool → List ℕ → Made
+madeIf true ids = record { check = check.Fine; set = setOf ids }
+madeIf false ids = record { check = check.Refused brokenSet; set = noVoters }
+
+abbrev pub made : List ℕ → Made
+made ids = madeIf (leb (length ids) voterLimit && distinct ids) ids

@@ -1,0 +1,239 @@
+-- From the rules to the promises: an answer of a quorum question is fixed by the rule, and refused exactly if a check refuses.
+use Prim.Native.Nat.{ℕ, zero, suc, _≤_, _<_}
+use mathlib.Core.Path.{_≡_, refl, sym, ap, subst, _∙_}
+use mathlib.Core.Bool.{Bool, true, false}
+use mathlib.Core.List.{List, [], _∷_, map}
+use mathlib.Core.Logic.{_↔_, _⊎_, ⊎-map, Iff·rfl, Iff·symm, Iff·trans, Iff·and}
+use native.Mathlib.Omega.{arith}
+use lib.ListN.{length, getD}
+use Rattle.units.specs.Units.{wordMax, indexOf}
+use Rattle.units.specs.Refusals.{brokenSet, bothChecks}
+use Rattle.units.specs.declared.Index.{Index}
+use Rattle.units.specs.declared.Check.{Check}
+use Rattle.units.specs.declared.Check.the-variants as check
+use Rattle.rules.specs.Majority.{Commits}
+use Rattle.rules.proofs.Majority.{committed-commits, commits-committed}
+use Rattle.quorum.specs.Rows.{nobody, idOf, ackNumber, rowOf, rowsCheck}
+use Rattle.quorum.specs.Ids.{position}
+use Rattle.quorum.specs.Voters.{votersOf, votersCheck}
+use Rattle.quorum.specs.Votes.{resultOf, jointResult}
+use Rattle.quorum.specs.Half.{halfIndex, joined}
+use Rattle.quorum.specs.Majority.{indexUnless, resultUnless, acksOf, votesOf, committedIndex, voteResult}
+use Rattle.quorum.specs.Joint.{oneSet, configCheck, jointIndex, jointVerdict, isUnless, singleton, containsOf, bothIds, listedUnless, idsAnswer}
+use Rattle.quorum.specs.declared.Committed.the-variants as answer
+use Rattle.quorum.specs.declared.Verdict.the-variants as verdict
+use Rattle.quorum.specs.declared.VoteResult.{VoteResult}
+use Rattle.quorum.specs.declared.VoteResult.the-variants as result
+use Rattle.quorum.specs.declared.half.Half.{Half}
+use Rattle.quorum.specs.declared.majority.Voters.{Voters}
+use Rattle.quorum.specs.declared.joint.JointConfig.{JointConfig}
+use Rattle.quorum.specs.declared.joint.Answer.the-variants as is
+use Rattle.quorum.specs.declared.rows.Peer.{Peer}
+use Rattle.quorum_laws.specs.JointRule.{JointCommits, Wins, Loses}
+use Rattle.quorum_laws.proofs.Checks.{OnlyTwelve, voters-twelve, config-twelve, with-rows-twelve, refused-by-twelve}
+use Rattle.quorum_laws.proofs.Votes.{pending-if-neither, half-won, half-lost, both-won, either-lost}
+use Rattle.quorum_laws.proofs.Joint.{Words, joint-unique, index-fits, joined-commits, joined-free, joined-one-set}
+use Rattle.quorum_laws.proofs.Made.{empty-fine}
+
+-- Nothing is wrong with the set, or with either half of a configuration, nor with the rows.
+abbrev pub Whole : Voters → List Peer → Type 0
+Whole v peers = bothChecks (votersCheck v) (rowsCheck peers) ≡ check.Fine
+
+abbrev pub JointWhole : JointConfig → List Peer → Type 0
+JointWhole c peers = bothChecks (configCheck c) (rowsCheck peers) ≡ check.Fine
+
+-- An answer that is no refusal: the check is fine, and the values are the half's, or the vote's.
+at-exactly-if : (k : Check) (h : Half) (n : ℕ) (b : Bool) → (indexUnless k h ≡ answer.At (indexOf n) b) ↔ ((k ≡ check.Fine) × ((h .index ≡ n) × (h .free ≡ b)))
+at-exactly-if check.Fine h n b = ((λ e. let i : indexOf (h .index) ≡ indexOf n = cc in (refl, (ap (λ (j : Index). j .0) i, (cc)))), (λ e. cc (e .1 .0, e .1 .1)))
+at-exactly-if (check.Refused m) h n b = ((λ e. ((cc), ((cc), (cc)))), (λ e. cc (e .0)))
+
+stands-exactly-if : (k : Check) (r s : VoteResult) → (resultUnless k r ≡ verdict.Stands s) ↔ ((k ≡ check.Fine) × (r ≡ s))
+stands-exactly-if check.Fine r s = ((λ e. (refl, (cc))), (λ e. ap verdict.Stands (e .1)))
+stands-exactly-if (check.Refused m) r s = ((λ e. ((cc), (cc))), (λ e. cc (e .0)))
+
+index-refuses : (h : Half) (k : Check) → OnlyTwelve k → (n : ℕ) → (indexUnless k h ≡ answer.Refused n) ↔ ((¬ (k ≡ check.Fine)) × (n ≡ brokenSet))
+index-refuses h = refused-by-twelve (λ k. indexUnless k h) answer.Refused (λ m. refl) (λ m n e. cc) else-not
+  where
+    else-not : (n : ℕ) → ¬ (indexUnless check.Fine h ≡ answer.Refused n)
+    else-not n e = let z : _≡_ {A = ℕ} 0 1 = cc in omega arith
+
+result-refuses : (r : VoteResult) (k : Check) → OnlyTwelve k → (n : ℕ) → (resultUnless k r ≡ verdict.Refused n) ↔ ((¬ (k ≡ check.Fine)) × (n ≡ brokenSet))
+result-refuses r = refused-by-twelve (λ k. resultUnless k r) verdict.Refused (λ m. refl) (λ m n e. cc) else-not
+  where
+    else-not : (n : ℕ) → ¬ (resultUnless check.Fine r ≡ verdict.Refused n)
+    else-not n e = let z : _≡_ {A = ℕ} 0 1 = cc in omega arith
+
+-- What is read of the voters is empty where nobody is a voter.
+module _ {A : Type 0} (f : ℕ → A) where
+  nobody-read : (ids : List ℕ) → (map f ids ≡ []) ↔ (ids ≡ [])
+  nobody-read [] = ((λ e. refl), (λ e. refl))
+  nobody-read (id ∷ ids) = ((λ e. cc), (λ e. cc))
+
+  somebody-read : (ids : List ℕ) → (0 < length (map f ids)) ↔ (0 < length ids)
+  somebody-read [] = Iff·rfl
+  somebody-read (id ∷ ids) = ((λ h. omega arith), (λ h. omega arith))
+
+-- ONE SET. Where it has voters, the index is the largest that a majority of them has reached; where it has none, it is the largest word.
+some-index : (acks : List ℕ) (n : ℕ) → ((halfIndex acks .index ≡ n) × (halfIndex acks .free ≡ false)) ↔ ((0 < length acks) × Commits acks n)
+unfolding halfIndex
+some-index [] n = ((λ e. let z : _≡_ {A = ℕ} 0 1 = cc (e .1) in let w : ⊥ = omega arith in absurd w), (λ e. let w : ⊥ = omega (arith, e .0) in absurd w))
+some-index (a ∷ acks) n = ((λ e. (omega arith, rw (sym (e .0)) (committed-commits (a ∷ acks) (omega arith)))), (λ e. (sym (commits-committed (a ∷ acks) n (e .0) (e .1)), refl)))
+
+no-index : (acks : List ℕ) (n : ℕ) → ((halfIndex acks .index ≡ n) × (halfIndex acks .free ≡ true)) ↔ ((acks ≡ []) × (n ≡ wordMax))
+unfolding halfIndex
+no-index [] n = ((λ e. (refl, sym (e .0))), (λ e. (sym (e .1), refl)))
+no-index (a ∷ acks) n = ((λ e. ((cc (e .1)), (cc (e .1)))), (λ e. ((cc (e .0)), (cc (e .0)))))
+
+module _ (v : Voters) (peers : List Peer) where
+  pub index-answer : (n : ℕ) → (committedIndex v peers ≡ answer.At (indexOf n) false) ↔ (Whole v peers × ((0 < length (votersOf v)) × Commits (acksOf peers v) n))
+  unfolding committedIndex
+  index-answer n = Iff·trans (at-exactly-if _ _ n false) (Iff·and Iff·rfl (Iff·trans (some-index (acksOf peers v) n) (Iff·and (somebody-read _ (votersOf v)) Iff·rfl)))
+
+  pub nobody-answer : (n : ℕ) → (committedIndex v peers ≡ answer.At (indexOf n) true) ↔ (Whole v peers × ((votersOf v ≡ []) × (n ≡ wordMax)))
+  unfolding committedIndex
+  nobody-answer n = Iff·trans (at-exactly-if _ _ n true) (Iff·and Iff·rfl (Iff·trans (no-index (acksOf peers v) n) (Iff·and (nobody-read _ (votersOf v)) Iff·rfl)))
+
+  pub index-refused : (n : ℕ) → (committedIndex v peers ≡ answer.Refused n) ↔ ((¬ Whole v peers) × (n ≡ brokenSet))
+  unfolding committedIndex
+  index-refused n = index-refuses _ _ (with-rows-twelve (votersCheck v) peers (voters-twelve v)) n
+
+  pub vote-answer : (r : VoteResult) → (voteResult v peers ≡ verdict.Stands r) ↔ (Whole v peers × (resultOf (votesOf peers v) ≡ r))
+  unfolding voteResult
+  vote-answer r = stands-exactly-if _ _ r
+
+  pub won-answer : (voteResult v peers ≡ verdict.Stands result.Won) ↔ (Whole v peers × Wins (votesOf peers v))
+  won-answer = Iff·trans (vote-answer result.Won) (Iff·and Iff·rfl (half-won (votesOf peers v)))
+
+  pub lost-answer : (voteResult v peers ≡ verdict.Stands result.Lost) ↔ (Whole v peers × Loses (votesOf peers v))
+  lost-answer = Iff·trans (vote-answer result.Lost) (Iff·and Iff·rfl (half-lost (votesOf peers v)))
+
+  pub pending-answer : (voteResult v peers ≡ verdict.Stands result.Pending) ↔ (Whole v peers × ((¬ Wins (votesOf peers v)) × (¬ Loses (votesOf peers v))))
+  pending-answer = Iff·trans (vote-answer result.Pending) (Iff·and Iff·rfl (pending-if-neither _ (half-won (votesOf peers v)) (half-lost (votesOf peers v))))
+
+  pub vote-refused : (n : ℕ) → (voteResult v peers ≡ verdict.Refused n) ↔ ((¬ Whole v peers) × (n ≡ brokenSet))
+  unfolding voteResult
+  vote-refused n = result-refuses _ _ (with-rows-twelve (votersCheck v) peers (voters-twelve v)) n
+
+-- BOTH HALVES. Each acknowledgement in the rows is a number of 64 bits, as the code's are; so is then each that a voter reads there.
+abbrev pub WordRows : List Peer → Type 0
+WordRows peers = Words (map (λ p. ackNumber (p .ack)) peers)
+
+row-word : (peers : List Peer) → WordRows peers → (at : ℕ) → ackNumber (getD peers at nobody .ack) ≤ wordMax
+row-word [] w at = omega arith
+row-word (p ∷ peers) w zero = w .0
+row-word (p ∷ peers) w (suc at) = row-word peers (w .1) at
+
+pub read-words : (peers : List Peer) → WordRows peers → (ids : List ℕ) → Words (map (λ id. ackNumber (rowOf peers id .ack)) ids)
+read-words peers w [] = tt
+read-words peers w (id ∷ ids) = (row-word peers w (position id (map idOf peers)), read-words peers w ids)
+
+same-flag : (a b : Bool) → (a ≡ true) ↔ (b ≡ true) → a ≡ b
+same-flag true b h = sym (h .0 refl)
+same-flag false true h = h .1 refl
+same-flag false false h = refl
+
+joint-values : (xs ys : List ℕ) → Words xs → Words ys → (n : ℕ) (b : Bool)
+    → ((joined (halfIndex xs) (halfIndex ys) .index ≡ n) × (joined (halfIndex xs) (halfIndex ys) .free ≡ b)) ↔ (JointCommits xs ys n × ((b ≡ true) ↔ ((xs ≡ []) × (ys ≡ []))))
+joint-values xs ys v w n b = (
+  (λ e. (subst (JointCommits xs ys) (e .0) (joined-commits xs ys v w), subst (λ (t : Bool). (t ≡ true) ↔ ((xs ≡ []) × (ys ≡ []))) (e .1) (joined-free xs ys))),
+  (λ e. (joint-unique (joined-commits xs ys v w) (e .0), same-flag _ b (Iff·trans (joined-free xs ys) (Iff·symm (e .1))))),
+)
+
+either-of : {A B C D : Type 0} → A ↔ C → B ↔ D → (A ⊎ B) ↔ (C ⊎ D)
+either-of h k = (⊎-map (h .0) (k .0), ⊎-map (h .1) (k .1))
+
+-- Nobody is a voter of either half.
+abbrev pub NoVoters : JointConfig → Type 0
+NoVoters c = (votersOf (c .incoming) ≡ []) × (votersOf (c .outgoing) ≡ [])
+
+-- Won in both halves; lost in either.
+abbrev pub JointWins : JointConfig → List Peer → Type 0
+JointWins c peers = Wins (votesOf peers (c .incoming)) × Wins (votesOf peers (c .outgoing))
+
+abbrev pub JointLoses : JointConfig → List Peer → Type 0
+JointLoses c peers = Loses (votesOf peers (c .incoming)) ⊎ Loses (votesOf peers (c .outgoing))
+
+module _ (c : JointConfig) (peers : List Peer) where
+  pub joint-index-answer : WordRows peers → (n : ℕ) (b : Bool)
+      → (jointIndex c peers ≡ answer.At (indexOf n) b) ↔ (JointWhole c peers × (JointCommits (acksOf peers (c .incoming)) (acksOf peers (c .outgoing)) n × ((b ≡ true) ↔ NoVoters c)))
+  unfolding jointIndex
+  joint-index-answer w n b =
+      Iff·trans (at-exactly-if _ _ n b)
+      (Iff·and Iff·rfl
+      (Iff·trans (joint-values _ _ (read-words peers w (votersOf (c .incoming))) (read-words peers w (votersOf (c .outgoing))) n b)
+      (Iff·and Iff·rfl (same-right (Iff·and (nobody-read _ (votersOf (c .incoming))) (nobody-read _ (votersOf (c .outgoing))))))))
+    where
+      same-right : {A B C : Type 0} → B ↔ C → (A ↔ B) ↔ (A ↔ C)
+      same-right e = ((λ f. Iff·trans f e), (λ f. Iff·trans f (Iff·symm e)))
+
+  pub joint-index-refused : (n : ℕ) → (jointIndex c peers ≡ answer.Refused n) ↔ ((¬ JointWhole c peers) × (n ≡ brokenSet))
+  unfolding jointIndex
+  joint-index-refused n = index-refuses _ _ (with-rows-twelve (configCheck c) peers (config-twelve c)) n
+
+  pub joint-vote-answer : (r : VoteResult) → (jointVerdict c peers ≡ verdict.Stands r) ↔ (JointWhole c peers × (jointResult (resultOf (votesOf peers (c .incoming))) (resultOf (votesOf peers (c .outgoing))) ≡ r))
+  unfolding jointVerdict
+  joint-vote-answer r = stands-exactly-if _ _ r
+
+  joint-won : (jointResult (resultOf (votesOf peers (c .incoming))) (resultOf (votesOf peers (c .outgoing))) ≡ result.Won) ↔ JointWins c peers
+  joint-won = Iff·trans (both-won _ _) (Iff·and (half-won (votesOf peers (c .incoming))) (half-won (votesOf peers (c .outgoing))))
+
+  joint-lost : (jointResult (resultOf (votesOf peers (c .incoming))) (resultOf (votesOf peers (c .outgoing))) ≡ result.Lost) ↔ JointLoses c peers
+  joint-lost = Iff·trans (either-lost _ _) (either-of (half-lost (votesOf peers (c .incoming))) (half-lost (votesOf peers (c .outgoing))))
+
+  pub joint-won-answer : (jointVerdict c peers ≡ verdict.Stands result.Won) ↔ (JointWhole c peers × JointWins c peers)
+  joint-won-answer = Iff·trans (joint-vote-answer result.Won) (Iff·and Iff·rfl joint-won)
+
+  pub joint-lost-answer : (jointVerdict c peers ≡ verdict.Stands result.Lost) ↔ (JointWhole c peers × JointLoses c peers)
+  joint-lost-answer = Iff·trans (joint-vote-answer result.Lost) (Iff·and Iff·rfl joint-lost)
+
+  pub joint-pending-answer : (jointVerdict c peers ≡ verdict.Stands result.Pending) ↔ (JointWhole c peers × ((¬ JointWins c peers) × (¬ JointLoses c peers)))
+  joint-pending-answer = Iff·trans (joint-vote-answer result.Pending) (Iff·and Iff·rfl (pending-if-neither _ joint-won joint-lost))
+
+  pub joint-vote-refused : (n : ℕ) → (jointVerdict c peers ≡ verdict.Refused n) ↔ ((¬ JointWhole c peers) × (n ≡ brokenSet))
+  unfolding jointVerdict
+  joint-vote-refused n = result-refuses _ _ (with-rows-twelve (configCheck c) peers (config-twelve c)) n
+
+-- A configuration of one set answers as the set does.
+then-fine : (k : Check) → bothChecks k check.Fine ≡ k
+then-fine check.Fine = refl
+then-fine (check.Refused n) = refl
+
+then-won : (r : VoteResult) → jointResult r result.Won ≡ r
+then-won result.Pending = refl
+then-won result.Lost = refl
+then-won result.Won = refl
+
+one-set-check : (v : Voters) → configCheck (oneSet v) ≡ votersCheck v
+one-set-check v = ap (bothChecks (votersCheck v)) empty-fine ∙ then-fine (votersCheck v)
+
+module _ (v : Voters) (peers : List Peer) where
+  pub one-set-index : WordRows peers → jointIndex (oneSet v) peers ≡ committedIndex v peers
+  unfolding jointIndex committedIndex
+  one-set-index w = cc (one-set-check v, joined-one-set (acksOf peers v) (index-fits (acksOf peers v) (read-words peers w (votersOf v))))
+
+  pub one-set-vote : jointVerdict (oneSet v) peers ≡ voteResult v peers
+  unfolding jointVerdict voteResult
+  one-set-vote = cc (one-set-check v, then-won (resultOf (votesOf peers v)))
+
+-- The other questions of a configuration read no rows, and refuse where a half is broken.
+is-refuses : (b : Bool) (k : Check) → OnlyTwelve k → (n : ℕ) → (isUnless k b ≡ is.Refused n) ↔ ((¬ (k ≡ check.Fine)) × (n ≡ brokenSet))
+is-refuses b = refused-by-twelve (λ k. isUnless k b) is.Refused (λ m. refl) (λ m n e. cc) else-not
+  where
+    else-not : (n : ℕ) → ¬ (isUnless check.Fine b ≡ is.Refused n)
+    else-not n e = let z : _≡_ {A = ℕ} 0 1 = cc in omega arith
+
+list-refuses : (ids : List ℕ) (k : Check) → OnlyTwelve k → (n : ℕ) → (listedUnless k ids .check ≡ check.Refused n) ↔ ((¬ (k ≡ check.Fine)) × (n ≡ brokenSet))
+list-refuses ids = refused-by-twelve (λ k. listedUnless k ids .check) check.Refused (λ m. refl) (λ m n e. cc) else-not
+  where
+    else-not : (n : ℕ) → ¬ (listedUnless check.Fine ids .check ≡ check.Refused n)
+    else-not n e = let z : _≡_ {A = ℕ} 0 1 = cc in omega arith
+
+module _ (c : JointConfig) where
+  pub singleton-refused : (n : ℕ) → (singleton c ≡ is.Refused n) ↔ ((¬ (configCheck c ≡ check.Fine)) × (n ≡ brokenSet))
+  singleton-refused n = is-refuses _ (configCheck c) (config-twelve c) n
+
+  pub contains-refused : (id n : ℕ) → (containsOf c id ≡ is.Refused n) ↔ ((¬ (configCheck c ≡ check.Fine)) × (n ≡ brokenSet))
+  contains-refused id n = is-refuses _ (configCheck c) (config-twelve c) n
+
+  pub ids-refused : (n : ℕ) → (idsAnswer c .check ≡ check.Refused n) ↔ ((¬ (configCheck c ≡ check.Fine)) × (n ≡ brokenSet))
+  ids-refused n = list-refuses (bothIds c) (configCheck c) (config-twelve c) n

@@ -1,0 +1,28 @@
+-- The joint rule, as statements that know nothing of how it is computed. A reader must know: `JointCommits incoming outgoing n` says what the joint committed index of two halves is; `Wins` and `Loses` say it of the vote of one half.
+-- That at most one number meets the first, and that the computations meet all three, is proved in proofs/Joint.antt and proofs/Votes.antt.
+use Prim.Native.Nat.{ℕ, _≤_, _<_}
+use mathlib.Core.List.{List}
+use lib.ListN.{length}
+use Rattle.units.specs.Units.{wordMax}
+use Rattle.rules.specs.Majority.{MajorityReached}
+use Rattle.quorum.specs.Votes.{Sure, Hopeless}
+use Rattle.quorum.specs.declared.rows.Vote.{Vote}
+
+-- A half backs m where nobody is in it, or a majority of it has acknowledged m or more.
+abbrev pub Backs : List ℕ → ℕ → Type 0
+Backs acks m = 0 < length acks → MajorityReached m acks
+
+-- 01, Joint: "It is the largest number that a majority of every nonempty half has reached, u64::MAX if both are empty." The largest number of 64 bits, that is: where both are empty, every number is backed.
+pub record JointCommits (incoming outgoing : List ℕ) (n : ℕ) : Type 0 where
+  pub fits : n ≤ wordMax
+  pub by-incoming : Backs incoming n
+  pub by-outgoing : Backs outgoing n
+  pub largest : (m : ℕ) → m ≤ wordMax → Backs incoming m → Backs outgoing m → m ≤ n
+
+-- A half wins where nobody is in it, or a majority of it says yes, however the vote ends; it loses where somebody is, and no majority does.
+-- 01, Joint: "Won if Won in both, Lost if Lost in either, else Pending."
+abbrev pub Wins : List Vote → Type 0
+Wins votes = 0 < length votes → Sure votes
+
+abbrev pub Loses : List Vote → Type 0
+Loses votes = (0 < length votes) × Hopeless votes

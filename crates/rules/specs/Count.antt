@@ -1,0 +1,19 @@
+-- Counting. A reader must know: `count p xs` is how many elements of the list xs pass the test p; everything that is counted in this project (acknowledgements, votes) is counted by it.
+use Prim.Native.Nat.{ℕ, suc}
+use mathlib.Core.Bool.{Bool, true, false}
+use mathlib.Core.List.{List, [], _∷_}
+
+abbrev pub one-more-if : Bool → ℕ → ℕ
+one-more-if true n = suc n
+one-more-if false n = n
+
+unfoldable pub count : {A : Type 0} → (A → Bool) → List A → ℕ
+count p [] = 0
+count p (x ∷ xs) = one-more-if (p x) (count p xs)
+
+-- The same elements in another order.
+pub data Reordered {A : Type 0} : List A → List A → Type 0 where
+  none : Reordered [] []
+  keep : (x : A) {xs ys : List A} → Reordered xs ys → Reordered (x ∷ xs) (x ∷ ys)
+  swap : (x y : A) (xs : List A) → Reordered (x ∷ y ∷ xs) (y ∷ x ∷ xs)
+  then : {xs ys zs : List A} → Reordered xs ys → Reordered ys zs → Reordered xs zs

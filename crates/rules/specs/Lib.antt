@@ -1,0 +1,3 @@
+-- The rules of the Raft paper (extended version), as definitions that know nothing of the code.
+pub mod Count
+pub mod Majority

@@ -1,0 +1,1 @@
+// Definitions and theorems only (specs/ and proofs/): what the Raft paper says, with no code.

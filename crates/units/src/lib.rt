@@ -1,0 +1,62 @@
+// What every crate above counts in: log indices, terms, and the refusals by name.
+pub mod refusal;
+
+ghost use mathlib.Core.Path.{_≡_};
+ghost use Rattle.units.specs.Units.{indexOf, termOf};
+ghost use Rattle.units.specs.Refusals.{refusalOf, bothChecks};
+
+// A log index. Its own type, so that no term can be handed where an index is wanted.
+pub struct Index(pub u64);
+
+impl Index {
+    // The largest index of a record: u64::MAX - 1, so that the index after it is still a number.
+    pub const LIMIT: u64 = 0xffff_ffff_ffff_fffe;
+
+    // Any number: a call that is handed an index above the limit answers by its own rules.
+    pub fn new(number: u64) -> Self
+        ensures { λ r. ⌜ r ≡ indexOf number ⌝ }
+    {
+        Self(number)
+    }
+}
+
+// A leader's term.
+pub struct Term(pub u64);
+
+impl Term {
+    pub fn new(number: u64) -> Self
+        ensures { λ r. ⌜ r ≡ termOf number ⌝ }
+    {
+        Self(number)
+    }
+}
+
+// What a check finds: nothing wrong, or the refusal that the call is to hand on.
+pub enum Check {
+    Fine,
+    Refused(u64),
+}
+
+impl Check {
+    // The refusal's number, 0 where there is none: what the `else` of a `let .. else` hands on.
+    pub fn refusal(self) -> u64
+        ensures { λ r. ⌜ r ≡ refusalOf self ⌝ }
+    {
+        let check = self;
+        match check {
+            Check::Fine => 0,
+            Check::Refused(number) => number,
+        }
+    }
+
+    // The first of two checks that refuses.
+    pub fn and(self, next: Check) -> Check
+        ensures { λ r. ⌜ r ≡ bothChecks self next ⌝ }
+    {
+        let check = self;
+        let Check::Fine = check else {
+            return check;
+        };
+        next
+    }
+}
