@@ -1,16 +1,21 @@
 // Document 01's cases on the quorums, run on the code: one line a case, readable beside the document.
 use libc::STDOUT_FILENO;
+use peer_tables::Table;
+use peer_tables::joint;
+use peer_tables::majority;
 use quorum::Committed;
 use quorum::Verdict;
 use quorum::VoteResult;
-use quorum::joint;
 use quorum::joint::Answer;
 use quorum::joint::Ids;
 use quorum::joint::JointConfig;
-use quorum::majority;
 use quorum::majority::Voters;
+use quorum::rows::Ack;
+use quorum::rows::Peer;
 use quorum::rows::Rows;
+use quorum::rows::Vote;
 use units::Check;
+use units::Index;
 ghost use Prim.Native.Nat.{_≤_};
 
 fn text(bytes: &[u8]) {
@@ -70,25 +75,43 @@ fn smaller(a: usize, b: usize) -> usize
     if a < b { a } else { b }
 }
 
-// Rows with these values, whose ids are 1, 2, 3 and so on.
-fn rows(values: &[u64]) -> Rows {
-    let end = smaller(values.len(), Rows::LIMIT);
-    let mut ids = [0u64; Rows::LIMIT];
-    let mut copy = [0u64; Rows::LIMIT];
+// Rows with these acknowledgements, whose ids are 1, 2, 3 and so on.
+fn acking(acks: &[u64]) -> Table {
+    let mut table = Table::empty();
     let mut i = 0;
-    while i < end {
-        copy[i] = values[i];
+    while i < acks.len() {
+        let ack = Ack::At(Index(acks[i]));
         i += 1;
-        ids[i - 1] = i as u64;
+        table = table.with(Peer {
+            id: i as u64,
+            ack,
+            vote: Vote::Missing,
+        });
     }
-    Rows {
-        ids,
-        values: copy,
-        count: values.len(),
-    }
+    table
 }
 
-// Voters of these ids; broken sets are made by hand.
+fn vote(said: bool) -> Vote {
+    if said { Vote::Yes } else { Vote::No }
+}
+
+// Rows with these votes.
+fn voting(votes: &[bool]) -> Table {
+    let mut table = Table::empty();
+    let mut i = 0;
+    while i < votes.len() {
+        let said = vote(votes[i]);
+        i += 1;
+        table = table.with(Peer {
+            id: i as u64,
+            ack: Ack::Missing,
+            vote: said,
+        });
+    }
+    table
+}
+
+// The set of these ids.
 fn voters(ids: &[u64]) -> Voters {
     let made = Voters::new(ids);
     made.set
@@ -115,24 +138,24 @@ fn ids(list: Ids) {
 
 fn index_cases() {
     text(b"acknowledgements 2,2,2,4,5: ");
-    committed(majority::committed_index_of(voters(&[1, 2, 3, 4, 5]), rows(&[2, 2, 2, 4, 5])));
+    committed(majority::committed_index(voters(&[1, 2, 3, 4, 5]), acking(&[2, 2, 2, 4, 5])));
     text(b"acknowledgements 9,7,7,3: ");
-    committed(majority::committed_index_of(voters(&[1, 2, 3, 4]), rows(&[9, 7, 7, 3])));
+    committed(majority::committed_index(voters(&[1, 2, 3, 4]), acking(&[9, 7, 7, 3])));
     text(b"one 5 and two missing: ");
-    committed(majority::committed_index_of(voters(&[1, 2, 3]), rows(&[5])));
+    committed(majority::committed_index(voters(&[1, 2, 3]), acking(&[5])));
     text(b"no voters: ");
-    committed(majority::committed_index_of(Voters::empty(), rows(&[5])));
+    committed(majority::committed_index(Voters::empty(), acking(&[5])));
 }
 
 fn vote_cases() {
     text(b"four voters, two yes, one no: ");
-    verdict(majority::vote_result_of(voters(&[1, 2, 3, 4]), rows(&[1, 1, 2])));
+    verdict(majority::vote_result(voters(&[1, 2, 3, 4]), voting(&[true, true, false])));
     text(b"four voters, two yes, two no: ");
-    verdict(majority::vote_result_of(voters(&[1, 2, 3, 4]), rows(&[1, 1, 2, 2])));
+    verdict(majority::vote_result(voters(&[1, 2, 3, 4]), voting(&[true, true, false, false])));
     text(b"four voters, three yes: ");
-    verdict(majority::vote_result_of(voters(&[1, 2, 3, 4]), rows(&[1, 1, 1])));
+    verdict(majority::vote_result(voters(&[1, 2, 3, 4]), voting(&[true, true, true])));
     text(b"no voters: ");
-    verdict(majority::vote_result_of(Voters::empty(), rows(&[2])));
+    verdict(majority::vote_result(Voters::empty(), voting(&[false])));
 }
 
 fn both(incoming: &[u64], outgoing: &[u64]) -> JointConfig {
@@ -144,17 +167,17 @@ fn both(incoming: &[u64], outgoing: &[u64]) -> JointConfig {
 
 fn joint_cases() {
     text(b"incoming 5,4,3: ");
-    committed(majority::committed_index_of(voters(&[1, 2, 3]), rows(&[5, 4, 3, 3, 8])));
+    committed(majority::committed_index(voters(&[1, 2, 3]), acking(&[5, 4, 3, 3, 8])));
     text(b"outgoing 3,8: ");
-    committed(majority::committed_index_of(voters(&[4, 5]), rows(&[5, 4, 3, 3, 8])));
+    committed(majority::committed_index(voters(&[4, 5]), acking(&[5, 4, 3, 3, 8])));
     text(b"joint: ");
-    committed(joint::committed_index_of(both(&[1, 2, 3], &[4, 5]), rows(&[5, 4, 3, 3, 8])));
+    committed(joint::committed_index(both(&[1, 2, 3], &[4, 5]), acking(&[5, 4, 3, 3, 8])));
     text(b"joint of two empty halves: ");
-    committed(joint::committed_index_of(both(&[], &[]), rows(&[])));
+    committed(joint::committed_index(both(&[], &[]), acking(&[])));
     text(b"won in one half, pending in the other: ");
-    verdict(joint::vote_result_of(both(&[1], &[2, 3]), rows(&[1, 1])));
+    verdict(joint::vote_result(both(&[1], &[2, 3]), voting(&[true, true])));
     text(b"won in one half, lost in the other: ");
-    verdict(joint::vote_result_of(both(&[1], &[2, 3]), rows(&[1, 2])));
+    verdict(joint::vote_result(both(&[1], &[2, 3]), voting(&[true, false])));
 }
 
 fn set_cases() {
@@ -172,37 +195,36 @@ fn set_cases() {
     ids(both(&[3, 1], &[2]).clear().ids());
 }
 
-// Sets and rows that no constructor makes.
-fn broken() -> Voters {
-    Voters {
-        ids: [1, 2, 1, 0, 0, 0, 0],
-        count: 3,
-    }
+// Sets that no constructor makes: a repeated id, and one voter more than the set has room for.
+fn repeated() -> Voters {
+    let mut ids = [0u64; Voters::LIMIT];
+    ids[0] = 1;
+    ids[1] = 1;
+    Voters { ids, count: 2 }
 }
 
 fn too_many() -> Voters {
     Voters {
-        ids: [1, 2, 3, 4, 5, 6, 7],
-        count: 8,
+        ids: [0u64; Voters::LIMIT],
+        count: Voters::LIMIT + 1,
     }
 }
 
 fn half_broken() -> JointConfig {
     JointConfig {
         incoming: Voters::empty(),
-        outgoing: broken(),
+        outgoing: repeated(),
     }
 }
 
-fn repeated_rows() -> Rows {
-    let mut ids = [0u64; Rows::LIMIT];
-    ids[0] = 9;
-    ids[1] = 9;
-    Rows {
-        ids,
-        values: [0u64; Rows::LIMIT],
-        count: 2,
-    }
+// Two rows of an id that no voter has.
+fn repeated_row() -> Table {
+    let row = Peer {
+        id: 9,
+        ack: Ack::Missing,
+        vote: Vote::Missing,
+    };
+    Table::empty().with(row).with(row)
 }
 
 fn constructed(ids: &[u64]) {
@@ -212,20 +234,20 @@ fn constructed(ids: &[u64]) {
 }
 
 fn refusal_cases() {
-    text(b"a constructor handed eight ids: ");
-    constructed(&[1, 2, 3, 4, 5, 6, 7, 8]);
+    text(b"a constructor handed an id too many: ");
+    constructed(&[0; Voters::LIMIT + 1]);
     text(b"a constructor handed an id twice: ");
     constructed(&[1, 1]);
-    text(b"eight voters: ");
-    committed(majority::committed_index_of(too_many(), rows(&[1])));
+    text(b"a voter too many: ");
+    committed(majority::committed_index(too_many(), acking(&[1])));
     text(b"a repeated voter: ");
-    verdict(majority::vote_result_of(broken(), rows(&[1])));
+    verdict(majority::vote_result(repeated(), voting(&[true])));
     text(b"a repeated voter in the outgoing half: ");
-    committed(joint::committed_index_of(half_broken(), rows(&[1])));
-    text(b"no voters, 65 rows: ");
-    committed(majority::committed_index_of(Voters::empty(), rows(&[0; 65])));
+    committed(joint::committed_index(half_broken(), acking(&[1])));
+    text(b"no voters, a row too many: ");
+    committed(majority::committed_index(Voters::empty(), acking(&[0; Rows::LIMIT + 1])));
     text(b"a repeated row of no voter: ");
-    committed(majority::committed_index_of(voters(&[1]), repeated_rows()));
+    committed(majority::committed_index(voters(&[1]), repeated_row()));
     text(b"ids of a broken half: ");
     ids(half_broken().ids());
 }

@@ -79,7 +79,7 @@ pub record ByValue : Type 2 where
   pub makes : {M : Type 1} (𝓤 : URA M) (H : Heap 𝓤) (A : Atoms 𝓤) → Makes 𝓤 H A row (Is row)
   pub still : row .exit yes ≡ unchanged
 
-abbrev of-struct : (S : struct.Declared) → LL.Laws S → Plains (struct.fields S) → LL.Copyables (S .parts) → LL.Lowered S → ByValue
+abbrev pub of-struct : (S : struct.Declared) → LL.Laws S → Plains (struct.fields S) → LL.Copyables (S .parts) → LL.Lowered S → ByValue
 of-struct S laws plains copies lowers = record { row = struct.row S; lowers = lowers; lawful = LL.lawful S laws; makes = LL.makes S plains; still = LL.still S copies yes }
 
 abbrev of-enum : (E : enum.Declared) → EL.Laws E → Few (enum.shape E) → Plainss (enum.variants E) → EL.Copyabless (E .parts) → Lowered (enum.row E) → ByValue
@@ -104,41 +104,41 @@ abbrev questions : ByValue
 questions = of-enum Qu.the-type Qu′.the-laws tt Qu′.the-plain Qu′.the-copy Qu′.lowers
 
 module _ (B : ByValue) where
-  abbrev Value : Type 0
+  abbrev pub Value : Type 0
   Value = B .row .Denot
 
   -- the value d is the machine value v
-  abbrev At : Value → Val → Type 0
+  abbrev pub At : Value → Val → Type 0
   At d v = Is (B .row) d (v ∷ [])
 
-  fits-at : {M : Type 1} (𝓤 : URA M) (H : Heap 𝓤) (A : Atoms 𝓤) (W : Given 𝓤 H A) (d : Value) (v : Val) → At d v → T (hasTy (B .lowers .mir) v) × WT v
+  pub fits-at : {M : Type 1} (𝓤 : URA M) (H : Heap 𝓤) (A : Atoms 𝓤) (W : Given 𝓤 H A) (d : Value) (v : Val) → At d v → T (hasTy (B .lowers .mir) v) × WT v
   fits-at 𝓤 H A W d v is = subst (λ τs. Typed τs (v ∷ [])) (B .lowers .layout-is) (B .lawful 𝓤 H A W .typed d (v ∷ []) is) .0
 
   -- at exit nothing is bound for it, and nothing is said of it
-  last : (d : Value) → Last (B .row .exit yes) d
+  pub last : (d : Value) → Last (B .row .exit yes) d
   last d = subst (λ (e : Exit Value). Last e d) (sym (B .still)) tt
 
-  silent : (d : Value) (w : Last (B .row .exit yes) d) → left (B .row .exit yes) d w ≡ ftrue
+  pub silent : (d : Value) (w : Last (B .row .exit yes) d) → left (B .row .exit yes) d w ≡ ftrue
   silent d = subst (λ (e : Exit Value). (w : Last e d) → left e d w ≡ ftrue) (sym (B .still)) (λ w. refl)
 
   -- what it owns, for nothing
-  made : {M : Type 1} {𝓤 : URA M} {H : Heap 𝓤} {A : Atoms 𝓤} {K : Type 0} {W : Given 𝓤 H A} {Γ : List (Item 𝓤)} {G : Goal 𝓤 H} → K → (d : Value) (v : Val) → At d v → Step K W (‵ (B .row .own d (v ∷ [])) ∷ Γ) G Γ G
+  pub made : {M : Type 1} {𝓤 : URA M} {H : Heap 𝓤} {A : Atoms 𝓤} {K : Type 0} {W : Given 𝓤 H A} {Γ : List (Item 𝓤)} {G : Goal 𝓤 H} → K → (d : Value) (v : Val) → At d v → Step K W (‵ (B .row .own d (v ∷ [])) ∷ Γ) G Γ G
   made {M} {𝓤} {H} {A} t d v is = owned t (B .row) (Is (B .row)) (B .makes 𝓤 H A) d (v ∷ []) is
 
 -- ---- contracts that ask nothing and fix the answer
-abbrev Answering : Ended → Type 0
+abbrev pub Answering : Ended → Type 0
 Answering F = (κs : Lfts (F .signature .lifetimes)) → Args (F .signature) κs → Res (F .signature) κs
 
 module _ {M : Type 1} (𝓤 : URA M) (F : Ended) (answer : Answering F) where
   abbrev exact : Clauses 𝓤 F
   exact κs args = record { ghost = Unit {0}; requires = λ _. emp 𝓤; ensures = λ _ r end. fact 𝓤 (r ≡ answer κs args) }
 
-  abbrev Exact : (H : Heap 𝓤) → Atoms 𝓤 → Contract 𝓤
+  abbrev pub Exact : (H : Heap 𝓤) → Atoms 𝓤 → Contract 𝓤
   Exact H A = tripleOf 𝓤 H A (F .signature) (closing 𝓤 H A F exact)
 
 -- a call of such a function, as one step of a walk: the tokens come back, and the answer is what the contract says
 module _ {M : Type 1} {𝓤 : URA M} {H : Heap 𝓤} {A : Atoms 𝓤} {K : Type 0} {W : Given 𝓤 H A} {Γ : List (Item 𝓤)} {E : Env 𝓤 H} {C : Calls 𝓤 H} {Λ : Loops 𝓤 H} {q : Post 𝓤 H} {k : Name} {xs : List Operand} {d : Place} {rest : Body} where
-  asks : K → FmC 𝓤 H (W .laws) C → (F : Ended) (answer : Answering F) → Triple 𝓤 (C k) (Exact 𝓤 F answer H A) → (x : Bound 𝓤 H A (F .signature))
+  pub asks : K → FmC 𝓤 H (W .laws) C → (F : Ended) (answer : Answering F) → Triple 𝓤 (C k) (Exact 𝓤 F answer H A) → (x : Bound 𝓤 H A (F .signature))
       → Opds K W (raw (Exact 𝓤 F answer H A .pre (x, tt)) ∷ Γ) E xs (passed 𝓤 H A (F .signature) x)
       → ((v : Val) (r : Res (F .signature) (x .0)) → r ≡ answer (x .0) (x .3) → Is (typeAt (F .signature .result) (x .0)) r (v ∷ []) → Seq K W (raw (alive 𝓤 H A (F .signature) (x .0) (x .1)) ∷ Γ) (lands C Λ E d v rest q))
       → Seq K W (raw (alive 𝓤 H A (F .signature) (x .0) (x .1)) ∷ ‵ (owns (typesAt (F .signature .params) (x .0)) (x .3) (x .4)) ∷ Γ) (runs C Λ E (seq (call k xs d) rest) q)

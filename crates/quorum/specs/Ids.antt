@@ -5,8 +5,7 @@ use mathlib.Core.List.{List, [], _∷_, _++_}
 use lib.ListN.{length, take, replicate}
 use lib.Dec.{eqb, leb, ltb}
 use Rattle.units.specs.declared.Check.{Check}
-use Rattle.units.specs.declared.Check.the-variants as check
-use Rattle.units.specs.Refusals.{brokenSet}
+use Rattle.units.specs.Refusals.{brokenSet, fineOr}
 
 abbrev pub zero-if : Bool → ℕ → ℕ
 zero-if true n = 0
@@ -28,8 +27,7 @@ distinct (x ∷ xs) = not (has x xs) && distinct xs
 
 -- Refusal 12, where a test fails.
 abbrev pub fineIf : Bool → Check
-fineIf true = check.Fine
-fineIf false = check.Refused brokenSet
+fineIf b = fineOr b brokenSet
 
 -- Refusal 12 of an array of ids with a count: more than the array has, or a repeated id among the first `count`. (The array of a voter set, and of rows, is as long as their limit.)
 abbrev pub checkOf : List ℕ → ℕ → Check

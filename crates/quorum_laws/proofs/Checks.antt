@@ -1,5 +1,5 @@
 -- Refusal 12: what it means that a check finds nothing wrong, and that there is no other number to refuse by.
-use Prim.Native.Nat.{ℕ, _≤_}
+use Prim.Native.Nat.{ℕ}
 use mathlib.Core.Path.{_≡_, refl, sym, ap, _∙_}
 use mathlib.Core.Bool.{Bool, true, false, _&&_, and-eq-true-iff}
 use mathlib.Core.List.{List, map}
@@ -7,10 +7,10 @@ use mathlib.Core.Logic.{_↔_, _⊎_, inl, inr}
 use native.Mathlib.Omega.{arith}
 use lib.ListN.{length}
 use lib.Dec.{leb}
-use borrow.Author.Tests.{leb-true}
 use Rattle.units.specs.Refusals.{brokenSet, bothChecks}
 use Rattle.units.specs.declared.Check.{Check}
 use Rattle.units.specs.declared.Check.the-variants as check
+use Rattle.quorum.proofs.Checks.{fine-true}
 use Rattle.quorum.specs.Ids.{distinct, fineIf}
 use Rattle.quorum.specs.Limits.{voterLimit, rowLimit}
 use Rattle.quorum.specs.Voters.{votersOf, votersCheck}
@@ -25,14 +25,7 @@ pub both-fine : (a b : Check) → (bothChecks a b ≡ check.Fine) ↔ ((a ≡ ch
 both-fine check.Fine b = ((λ e. (refl, e)), (λ e. e .1))
 both-fine (check.Refused n) b = ((λ e. ((cc), (cc))), (λ e. cc))
 
-fine-true : (b : Bool) → fineIf b ≡ check.Fine → b ≡ true
-fine-true true e = refl
-fine-true false e = cc
-
--- A fine set: few voters, each once.
-pub few-voters : (v : Voters) → votersCheck v ≡ check.Fine → v .count ≤ voterLimit
-few-voters v e = leb-true (v .count) voterLimit (and-eq-true-iff (leb (v .count) voterLimit) (distinct (votersOf v)) .0 (fine-true _ e) .0)
-
+-- Rows that were checked: each id once.
 pub distinct-rows : (peers : List Peer) → rowsCheck peers ≡ check.Fine → distinct (map idOf peers) ≡ true
 distinct-rows peers e = and-eq-true-iff (leb (length peers) rowLimit) (distinct (map idOf peers)) .0 (fine-true _ e) .1
 

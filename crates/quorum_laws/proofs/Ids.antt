@@ -1,5 +1,5 @@
 -- The ids of both halves, put in falling order and listed from the last to the first, each once, are the one rising list of them.
-use Prim.Native.Nat.{ℕ, suc, _≤_, _<_}
+use Prim.Native.Nat.{ℕ, _≤_, _<_}
 use mathlib.Core.Path.{_≡_, refl, sym, ap, _∙_}
 use mathlib.Core.Bool.{Bool, true, false, _||_, or-true, or-false, or-comm}
 use mathlib.Core.List.{List, [], _∷_, _++_}
@@ -21,8 +21,11 @@ use Rattle.quorum.specs.Joint.{configCheck, one-more-unless, rising, bothIds, l
 use Rattle.quorum.specs.declared.joint.JointConfig.{JointConfig}
 use Rattle.quorum.specs.declared.joint.Answer.the-variants as answer
 use Rattle.quorum_laws.specs.IdsRule.{Rising, ListsBoth}
-use Rattle.quorum_laws.proofs.Members.{has-none, has-cons, has-append, has-falling, padded-holds}
-use Rattle.quorum_laws.proofs.Checks.{both-fine, few-voters}
+use Rattle.quorum_laws.proofs.Members.{has-none, has-cons, has-append, has-falling}
+use Rattle.quorum.proofs.Listing.{length-rising}
+use Rattle.quorum.proofs.Padded.{take-padded}
+use Rattle.quorum.proofs.Checks.{voters-within}
+use Rattle.quorum_laws.proofs.Checks.{both-fine}
 
 -- Standing in a list, by cases on its head.
 either : (a b : Bool) → a || b ≡ true → (a ≡ true) ⊎ (b ≡ true)
@@ -126,25 +129,16 @@ pub both-ids-unique : (c : JointConfig) (ids : List ℕ) → ListsBoth c ids →
 both-ids-unique c ids l = rising-unique ids (bothIds c) (l .rises) (both-ids c .rises) (λ id. l .members id ∙ sym (both-ids c .members id))
 
 -- There is room for it.
-one-more-at-most : (b : Bool) (ids : List ℕ) (x : ℕ) → length (one-more-unless b ids x) ≤ suc (length ids)
-one-more-at-most true ids x = omega arith
-one-more-at-most false ids x = omega (arith, length-append ids (x ∷ []))
-
-pub length-rising : (xs : List ℕ) → length (rising xs) ≤ length xs
-unfolding rising
-length-rising [] = omega arith
-length-rising (x ∷ xs) = omega (arith, one-more-at-most (has x (rising xs)) (rising xs) x, length-rising xs)
-
 pub length-both-ids : (c : JointConfig) → configCheck c ≡ check.Fine → length (bothIds c) ≤ idLimit
 unfolding bothIds
 length-both-ids c e =
     let halves = both-fine (votersCheck (c .incoming)) (votersCheck (c .outgoing)) .0 e in
     let both : List ℕ = votersOf (c .incoming) ++ votersOf (c .outgoing) in
-    omega (arith, length-rising (falling both), length-falling both, length-append (votersOf (c .incoming)) (votersOf (c .outgoing)), length-take (c .incoming .count) (c .incoming .ids), length-take (c .outgoing .count) (c .outgoing .ids), few-voters (c .incoming) (halves .0), few-voters (c .outgoing) (halves .1))
+    omega (arith, length-rising (falling both), length-falling both, length-append (votersOf (c .incoming)) (votersOf (c .outgoing)), length-take (c .incoming .count) (c .incoming .ids), length-take (c .outgoing .count) (c .outgoing .ids), voters-within (c .incoming) (halves .0), voters-within (c .outgoing) (halves .1))
 
 -- So the answer holds all of it, and `contains` says yes to those ids.
 listed-whole : (k : Check) (ids : List ℕ) → k ≡ check.Fine → length ids ≤ idLimit → take (listedUnless k ids .count) (listedUnless k ids .ids) ≡ ids
-listed-whole check.Fine ids e h = padded-holds idLimit ids h
+listed-whole check.Fine ids e h = take-padded idLimit ids h
 listed-whole (check.Refused n) ids e h = cc
 
 module _ (c : JointConfig) (fine : configCheck c ≡ check.Fine) where

@@ -10,7 +10,7 @@ use Rattle.units.specs.declared.Check.the-variants as check
 use Rattle.quorum.specs.Limits.{voterLimit}
 use Rattle.quorum.specs.Ids.{distinct}
 use Rattle.quorum.specs.Voters.{votersOf, votersCheck, setOf, noVoters, madeIf, made}
-use Rattle.quorum_laws.proofs.Members.{padded-holds}
+use Rattle.quorum.proofs.Padded.{take-padded}
 
 pub empty-fine : votersCheck noVoters ≡ check.Fine
 unfolding distinct
@@ -21,7 +21,7 @@ module _ (ids : List ℕ) where
   fits = leb (length ids) voterLimit && distinct ids
 
   set-voters : fits ≡ true → votersOf (setOf ids) ≡ ids
-  set-voters e = padded-holds voterLimit ids (leb-true (length ids) voterLimit (and-eq-true-iff (leb (length ids) voterLimit) (distinct ids) .0 e .0))
+  set-voters e = take-padded voterLimit ids (leb-true (length ids) voterLimit (and-eq-true-iff (leb (length ids) voterLimit) (distinct ids) .0 e .0))
 
   set-fine : fits ≡ true → votersCheck (setOf ids) ≡ check.Fine
   set-fine e = rw (set-voters e, e)

@@ -1,18 +1,17 @@
--- Laws of standing in a list: in one with an element more, in lists joined, put in order or reordered; and of a list laid into an array.
-use Prim.Native.Nat.{ℕ, suc, _-_, _≤_}
+-- Laws of standing in a list: in one with an element more, in lists joined, put in order or reordered.
+use Prim.Native.Nat.{ℕ, suc}
 use mathlib.Core.Path.{_≡_, refl, sym, ap, _∙_}
 use mathlib.Core.Bool.{Bool, true, false, not, _&&_, _||_, or-assoc}
 use mathlib.Core.List.{List, [], _∷_, _++_}
 use native.Mathlib.Omega.{arith}
-use lib.ListN.{length, take, replicate}
-use lib.Seq.{take-all, take-append-seam}
+use lib.ListN.{length}
 use lib.Dec.{leb·suc-suc, eqb, ltb}
 use borrow.Author.Tests.{lt-ltb, eqb-true, eqb-false, eq-eqb, ne-eqb}
 use Rattle.rules.specs.Count.{one-more-if, count, Reordered, none, keep, swap, then}
 use Rattle.rules.specs.Majority.{falling}
 use Rattle.rules.proofs.Count.{count-reordered}
 use Rattle.rules.proofs.Majority.{count-falling}
-use Rattle.quorum.specs.Ids.{zero-if, position, has, distinct, padded}
+use Rattle.quorum.specs.Ids.{zero-if, position, has, distinct}
 
 -- An id stands in no empty list; in a longer one, at its head or behind it.
 pub has-none : (id : ℕ) → has id [] ≡ false
@@ -73,7 +72,3 @@ distinct-reordered none = refl
 distinct-reordered (keep x r) = rw (has-reordered x r, distinct-reordered r)
 distinct-reordered (swap x y xs) = rw (has-cons x y xs, has-cons y x xs, eqb-swap y x) (swap-tests (eqb x y) (has x xs) (has y xs) (distinct xs))
 distinct-reordered (then r s) = distinct-reordered r ∙ distinct-reordered s
-
--- A list that fits its array is what the array's first words are.
-pub padded-holds : (n : ℕ) (xs : List ℕ) → length xs ≤ n → take (length xs) (padded n xs) ≡ xs
-padded-holds n xs h = rw (take-all n xs h) (take-append-seam xs (replicate (n - length xs) 0))

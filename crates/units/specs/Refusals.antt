@@ -1,5 +1,6 @@
 -- The table of refusals of document 01, each number once. A promise that refuses cites a name from here; `src/refusal.rt` has the same table for the code.
 use Prim.Native.Nat.{ℕ}
+use mathlib.Core.Bool.{Bool, true, false}
 use Rattle.units.specs.declared.Check.{Check}
 use Rattle.units.specs.declared.Check.the-variants as check
 
@@ -64,3 +65,8 @@ refusalOf (check.Refused n) = n
 abbrev pub bothChecks : Check → Check → Check
 bothChecks check.Fine next = next
 bothChecks (check.Refused n) next = check.Refused n
+
+-- A rule that holds, or the refusal of its number.
+abbrev pub fineOr : Bool → ℕ → Check
+fineOr true n = check.Fine
+fineOr false n = check.Refused n

@@ -1,0 +1,63 @@
+-- How many flights in front are at most `to`, found by a walk: what holds after i of them, from the start to each end.
+use Prim.Native.Nat.{ℕ, zero, suc, _+_, _≤_, _<_}
+use mathlib.Core.Path.{_≡_, refl, sym, ap, _∙_, subst}
+use mathlib.Core.Bool.{Bool, true, false}
+use mathlib.Core.List.{List}
+use native.Mathlib.Omega.{arith}
+use borrow.Author.Count.{below-more}
+use borrow.Author.Tests.{le-leb, lt-leb}
+use lib.Dec.{leb}
+use lib.ListN.{length, getD}
+use Rattle.inflights.specs.State.{if_then_else_}
+use Rattle.inflights.specs.Ring.{placeOf, values, flightAt, flightsFrom, leading, InRing}
+use Rattle.inflights.proofs.Places.{place-in, place-zero, place-place}
+
+stops-at : (to c : ℕ) (f : ℕ → ℕ) (i : ℕ) → i ≤ c → ((k : ℕ) → k < i → f k ≤ to) → (i < c → to < f i) → i ≡ leading to (values c f)
+unfolding values leading
+stops-at to zero f zero h l r = refl
+stops-at to zero f (suc i) h l r = absurd (omega arith)
+stops-at to (suc c) f zero h l r = let a : leb (f 0) to ≡ false = lt-leb (f 0) to (r (omega arith)) in simp a
+stops-at to (suc c) f (suc i) h l r =
+    let a : leb (f 0) to ≡ true = le-leb (f 0) to (l 0 (omega arith)) in
+    simp a (ap suc (stops-at to c (λ k. f (suc k)) i (omega arith) (λ k p. l (suc k) (omega arith)) (λ p. r (omega arith))))
+
+at-most-by : (b : Bool) (x c : ℕ) → x ≤ c → (if b then suc x else 0) ≤ suc c
+at-most-by true x c h = omega arith
+at-most-by false x c h = omega arith
+
+at-most : (to c : ℕ) (f : ℕ → ℕ) → leading to (values c f) ≤ c
+unfolding values leading
+at-most to zero f = omega arith
+at-most to (suc c) f = at-most-by (leb (f 0) to) _ c (at-most to c (λ k. f (suc k)))
+
+pub leading-at-most : (to start count : ℕ) (ring : List ℕ) → leading to (flightsFrom start count ring) ≤ count
+unfolding flightsFrom
+leading-at-most to start count ring = at-most to count (flightAt start ring)
+
+-- After i flights: `at` is the place of the next, and all before it are at most `to`.
+pub record Walked (start count : ℕ) (ring : List ℕ) (to at i : ℕ) : Type 0 where
+  pub within : i ≤ count
+  pub here : at ≡ placeOf start i (length ring)
+  pub small : (k : ℕ) → k < i → flightAt start ring k ≤ to
+
+module _ (start count : ℕ) (ring : List ℕ) (to : ℕ) where
+  pub walk-begins : InRing start count (length ring) → Walked start count ring to start 0
+  walk-begins r = record { within = omega arith; here = sym (place-zero start (length ring) (r .start-ring)); small = λ k h. absurd (omega arith) }
+
+  pub walk-inside : (at i : ℕ) → InRing start count (length ring) → Walked start count ring to at i → i < count → at < length ring
+  walk-inside at i r w h = subst (λ (x : ℕ). x < length ring) (sym (w .here)) (place-in start i (length ring) (omega (arith, r .start-ring, r .count-ring)))
+
+  pub walk-goes-on : (at i next : ℕ) → Walked start count ring to at i → i < count → getD ring at 0 ≤ to → next ≡ placeOf at 1 (length ring) → Walked start count ring to next (i + 1)
+  walk-goes-on at i next w h l e = record {
+    within = omega arith;
+    here = e ∙ ap (λ (p : ℕ). placeOf p 1 (length ring)) (w .here) ∙ place-place start i 1 (length ring);
+    small = below-more (λ (k : ℕ). flightAt start ring k ≤ to) i (w .small) (subst (λ (p : ℕ). getD ring p 0 ≤ to) (w .here) l);
+  }
+
+  pub walk-stops : (at i : ℕ) → Walked start count ring to at i → to < getD ring at 0 → i ≡ leading to (flightsFrom start count ring)
+  unfolding flightsFrom
+  walk-stops at i w l = stops-at to count (flightAt start ring) i (w .within) (w .small) (λ _. subst (λ (p : ℕ). to < getD ring p 0) (w .here) l)
+
+  pub walk-ends : (at i : ℕ) → Walked start count ring to at i → count ≤ i → i ≡ leading to (flightsFrom start count ring)
+  unfolding flightsFrom
+  walk-ends at i w l = stops-at to count (flightAt start ring) i (w .within) (w .small) (λ h. absurd (omega arith))

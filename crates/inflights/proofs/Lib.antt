@@ -1,0 +1,16 @@
+pub mod Facts
+pub mod Places
+pub mod Leading
+pub mod Freeing
+pub mod Lists
+pub mod Queue
+pub mod Stays
+pub mod Unique
+pub mod Cases
+pub mod Walk
+pub mod Thin
+pub mod ThinNumber
+pub mod ThinWrite
+pub mod Lent
+pub mod LentNumber
+pub mod LentWrite

@@ -1,0 +1,5 @@
+pub mod State
+pub mod Ring
+pub mod Calls
+pub mod Queue
+pub mod InPlace

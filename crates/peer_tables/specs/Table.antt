@@ -1,0 +1,52 @@
+-- Peer rows by value. A reader must know: the rows of a table are the first `count`; over the limit every question is refused with 12, and else its answer is that of the lent rows.
+use Prim.Native.Nat.{_+_, min}
+use mathlib.Core.Bool.{Bool, true, false}
+use mathlib.Core.List.{List}
+use lib.ListN.{take, set, replicate}
+use lib.Dec.{ltb}
+use Rattle.units.specs.Refusals.{brokenSet}
+use Rattle.quorum.specs.Limits.{rowLimit}
+use Rattle.quorum.specs.Rows.{nobody}
+use Rattle.quorum.specs.Majority.{committedIndex, voteResult}
+use Rattle.quorum.specs.Joint.{jointIndex, jointVerdict}
+use Rattle.quorum.specs.declared.Committed.{Committed}
+use Rattle.quorum.specs.declared.Committed.the-variants as answer
+use Rattle.quorum.specs.declared.Verdict.{Verdict}
+use Rattle.quorum.specs.declared.Verdict.the-variants as verdict
+use Rattle.quorum.specs.declared.joint.JointConfig.{JointConfig}
+use Rattle.quorum.specs.declared.majority.Voters.{Voters}
+use Rattle.quorum.specs.declared.rows.Peer.{Peer}
+use Rattle.peer_tables.specs.declared.Table.{Table}
+
+-- THE PROMISE of `empty`: every row is nobody's.
+abbrev pub noRows : Table
+noRows = record { peers = replicate rowLimit nobody; count = 0 }
+
+-- THE PROMISE of `with`: the row stands behind the others, and one more is counted. In a full table there is no place to `set`, so the rows stay, and the count stops at one over the limit.
+abbrev pub oneMore : Table → Peer → Table
+oneMore t p = record { peers = set (t .peers) (t .count) p; count = min (t .count) rowLimit + 1 }
+
+-- The rows of a table.
+abbrev pub rowsIn : Table → List Peer
+rowsIn t = take (t .count) (t .peers)
+
+-- Refusal 12 where there are too many rows, else the answer of the lent ones.
+abbrev pub either : {A : Type 0} → Bool → A → A → A
+either true refused answered = refused
+either false refused answered = answered
+
+abbrev pub tooMany : Table → Bool
+tooMany t = ltb rowLimit (t .count)
+
+-- THE PROMISES of the questions.
+abbrev pub tableIndex : Voters → Table → Committed
+tableIndex v t = either (tooMany t) (answer.Refused brokenSet) (committedIndex v (rowsIn t))
+
+abbrev pub tableResult : Voters → Table → Verdict
+tableResult v t = either (tooMany t) (verdict.Refused brokenSet) (voteResult v (rowsIn t))
+
+abbrev pub tableJointIndex : JointConfig → Table → Committed
+tableJointIndex c t = either (tooMany t) (answer.Refused brokenSet) (jointIndex c (rowsIn t))
+
+abbrev pub tableJointVerdict : JointConfig → Table → Verdict
+tableJointVerdict c t = either (tooMany t) (verdict.Refused brokenSet) (jointVerdict c (rowsIn t))
