@@ -1,4 +1,6 @@
-// Document 01's cases on the quorums, run on the code: one line a case, readable beside the document.
+// Document 01's cases, run on the code: one line a case, readable beside the document.
+mod log;
+
 use libc::STDOUT_FILENO;
 use peer_tables::Table;
 use peer_tables::joint;
@@ -18,15 +20,15 @@ use units::Check;
 use units::Index;
 ghost use Prim.Native.Nat.{_≤_};
 
-fn text(bytes: &[u8]) {
+pub fn text(bytes: &[u8]) {
     io::write_all(STDOUT_FILENO, bytes);
 }
 
-fn number(n: u64) {
+pub fn number(n: u64) {
     io::print_decimal(STDOUT_FILENO, n);
 }
 
-fn refused(n: u64) {
+pub fn refused(n: u64) {
     text(b"refused ");
     number(n);
     text(b"\n");
@@ -258,4 +260,7 @@ fn main() {
     joint_cases();
     set_cases();
     refusal_cases();
+    log::term_cases();
+    log::append_cases();
+    log::by_term_cases();
 }

@@ -1,3 +1,4 @@
 pub mod Count
 pub mod Majority
 pub mod Shared
+pub mod Receiver

@@ -1,0 +1,111 @@
+-- The cut that `maybe_append` and `append` share, on the view: the records before the conflict stay, and the run's follow them.
+use mathlib.Core.Path.{_≡_, sym, ap, ap₂, _∙_}
+use mathlib.Core.Logic.{⊎-elim}
+use mathlib.Core.List.{List, _++_, append-nil, append-assoc}
+use Prim.Native.Nat.{ℕ, _+_, _-_, _≤_, _<_, min}
+use native.Mathlib.Omega.{arith}
+use lib.ListN.{take}
+use lib.Seq.{take-append-le, take-append-add}
+use Rattle.rules.specs.Log.{Entry}
+use Rattle.rules.specs.Receiver.{with-entries}
+use Rattle.raft_log.specs.declared.Log.{Log}
+use Rattle.raft_log.specs.Words.{room, putRun}
+use Rattle.raft_log.specs.State.{Good, lastOf}
+use Rattle.raft_log.specs.Append.{cutLog}
+use Rattle.log_laws.specs.View.{storeEntry, runEntry, listed, records, view-of}
+use Rattle.raft_log.proofs.Searching.{below-or-not}
+use Rattle.log_laws.proofs.Views.{length-listed, same-listed, take-listed, append-listed, put-below, put-inside}
+
+-- numbers, apart so that few are in reach
+seam : (n o s c : ℕ) → n ≡ o - 1 - s → s < o → o ≤ c → n + (c - o) ≡ c - s - 1
+seam n o s c e h g = omega arith
+
+shorter : (o n c : ℕ) → 0 < o → c ≤ o + n - 1 + 1 → c - o ≤ n
+shorter o n c h f = omega arith
+
+lower : (o s c : ℕ) → c < o → c - s - 1 ≤ o - 1 - s
+lower o s c h = omega arith
+
+left : (o c : ℕ) → o ≤ c → min o c ≡ o
+left o c h = omega arith
+
+right : (o c : ℕ) → c < o → min o c ≡ c
+right o c h = omega arith
+
+swapped : (c s : ℕ) → c - 1 - s ≡ c - s - 1
+swapped c s = omega arith
+
+counts : (o c m last : ℕ) → last + 1 ≡ c + m → last + 1 - min o c ≡ c - min o c + m
+counts o c m last h = omega arith
+
+module _ (l : Log) (settled pending : List ℕ) (good : Good l settled pending) (conflict : ℕ)
+    (above : l .start .0 < conflict) (next : conflict ≤ lastOf l + 1) where
+  -- the offset after the cut, how many pending records stay, and how many settled ones there were
+  abbrev F : ℕ
+  F = min (l .offset .0) conflict
+
+  abbrev a : ℕ
+  a = conflict - F
+
+  abbrev A : ℕ
+  A = l .offset .0 - 1 - l .start .0
+
+  abbrev pub kept : List Entry
+  kept = take (conflict - l .start .0 - 1) (view-of l settled pending .entries)
+
+  -- the cut is in pending: what stays is all that is settled, and pending's first records
+  kept-pending : l .offset .0 ≤ conflict → records (F - 1 - l .start .0) settled ++ records a pending ≡ kept
+  unfolding view-of
+  kept-pending h =
+      let at : F ≡ l .offset .0 = left (l .offset .0) conflict h in
+      ap (λ (x : ℕ). records (x - 1 - l .start .0) settled ++ records (conflict - x) pending) at
+      ∙ ap (λ (x : List Entry). records A settled ++ x)
+      (sym (take-listed (storeEntry pending) 0 (l .count) (conflict - l .offset .0) (shorter (l .offset .0) (l .count) conflict (omega arith) next)))
+      ∙ sym (take-append-add (records A settled) (records (l .count) pending) (conflict - l .offset .0))
+      ∙ ap (λ (x : ℕ). take x (records A settled ++ records (l .count) pending))
+      (seam _ (l .offset .0) (l .start .0) conflict (length-listed (storeEntry settled) 0 A) (good .start<offset) h)
+
+  -- the cut is below: the first settled records alone stay
+  kept-settled : conflict < l .offset .0 → records (F - 1 - l .start .0) settled ++ records a pending ≡ kept
+  unfolding view-of listed
+  kept-settled h =
+      let at : F ≡ conflict = right (l .offset .0) conflict h in
+      let none : conflict - conflict ≡ 0 = omega arith in
+      let within : conflict - l .start .0 - 1 ≤ A = lower (l .offset .0) (l .start .0) conflict h in
+      ap (λ (x : ℕ). records (x - 1 - l .start .0) settled ++ records (conflict - x) pending) at
+      ∙ ap (λ (x : ℕ). records (conflict - 1 - l .start .0) settled ++ records x pending) none
+      ∙ append-nil (records (conflict - 1 - l .start .0) settled)
+      ∙ ap (λ (x : ℕ). records x settled) (swapped conflict (l .start .0))
+      ∙ sym (take-append-le (conflict - l .start .0 - 1) (records A settled) (records (l .count) pending) (omega (arith, length-listed (storeEntry settled) 0 A))
+      ∙ take-listed (storeEntry settled) 0 A (conflict - l .start .0 - 1) within)
+
+  kept-is : records (F - 1 - l .start .0) settled ++ records a pending ≡ kept
+  kept-is = ⊎-elim (λ h. kept-settled h) (λ h. kept-pending h) (below-or-not conflict (l .offset .0))
+
+  -- the run's m records from q on are written behind them
+  module _ (run : List ℕ) (q m : ℕ) (room-left : a + m ≤ room pending) where
+    abbrev store : List ℕ
+    store = putRun pending a run q m
+
+    written-is : records (a + m) store ≡ records a pending ++ listed (runEntry run) q m
+    written-is =
+        append-listed (storeEntry store) 0 a m
+        ∙ ap₂ (λ (x y : List Entry). x ++ y)
+        (same-listed (storeEntry store) (storeEntry pending) 0 0 a (λ i h. put-below pending a run q m (0 + i) (omega arith)))
+        (same-listed (storeEntry store) (runEntry run) (0 + a) q m (λ i h. ap (storeEntry store) (omega arith) ∙ put-inside pending a run q m i room-left h))
+
+    entries-cut : records (F - 1 - l .start .0) settled ++ records (a + m) store ≡ kept ++ listed (runEntry run) q m
+    entries-cut =
+        ap (λ (x : List Entry). records (F - 1 - l .start .0) settled ++ x) written-is
+        ∙ sym (append-assoc (records (F - 1 - l .start .0) settled) (records a pending) (listed (runEntry run) q m))
+        ∙ ap (λ (x : List Entry). x ++ listed (runEntry run) q m) kept-is
+
+  pub view-cut : (run : List ℕ) (q m last persisted : ℕ) → last + 1 ≡ conflict + m → cutLog l conflict last persisted .count ≤ room pending
+      → view-of (cutLog l conflict last persisted) settled (putRun pending a run q m)
+      ≡ with-entries (view-of l settled pending) (kept ++ listed (runEntry run) q m)
+  unfolding view-of
+  view-cut run q m last persisted e r =
+      let number : last + 1 - F ≡ a + m = counts (l .offset .0) conflict m last e in
+      ap (with-entries (view-of l settled pending))
+      (ap (λ (x : ℕ). records (F - 1 - l .start .0) settled ++ records x (putRun pending a run q m)) number
+      ∙ entries-cut run q m (omega (arith, number)))

@@ -1,0 +1,6 @@
+pub mod Cases
+pub mod Keep
+pub mod Views
+pub mod Cutting
+pub mod Receiving
+pub mod AfterCalls

@@ -1,0 +1,386 @@
+-- THE THEOREM about `maybe_append`: where it takes a message, it did the receiver's steps of the paper (rules/specs/Receiver.antt) on the log that its stores stand for; where it refuses by 4 or 5, step 2 replies false.
+-- One difference from the paper: committed never falls, so it is the larger of itself and what step 5 says.
+use mathlib.Core.Path.{_≡_, refl, sym, ap, ap₂, subst, _∙_}
+use mathlib.Core.Bool.{Bool, true, false, not, _&&_, _||_, false≢true}
+use mathlib.Core.Logic.{_⊎_, ⊎-elim, inl, inr}
+use mathlib.Core.List.{List, _++_, append-nil}
+use Prim.Native.Nat.{ℕ, _+_, _-_, _≤_, _<_, min, max}
+use native.Mathlib.Omega.{arith}
+use borrow.Author.Tests.{lt-ltb, le-ltb, le-leb, lt-leb, eq-eqb, ne-eqb, eqb-true, eqb-false, ltb-false, leb-true, not-false}
+use lib.Dec.{ltb, eqb, leb}
+use lib.ListN.{length, getD, take, drop, drop-of-length-le}
+use lib.Seq.{length-take-le, take-all}
+use Rattle.rules.specs.Log.{Entry, nothing, Log as Abstract, last}
+use Rattle.rules.specs.Receiver.{Answer, reply-false, success, contains, step-2, conflicts, with-entries, step-3, step-4, step-5, commit-if, receiver}
+use Rattle.rules.proofs.Receiver.{conflict-at, step-3-keeps, step-3-deletes}
+use Rattle.units.specs.Units.{indexOf}
+use Rattle.units.specs.declared.Index.{Index}
+use Rattle.units.specs.Refusals.{brokenState, misnumberedRun, zeroTerm, outsideLog, mismatch, cutsCommitted, noRoom}
+use Rattle.raft_log.specs.declared.Log.{Log}
+use Rattle.raft_log.specs.declared.Appended.{Appended}
+use Rattle.raft_log.specs.declared.Appended.the-variants.{Done, Refused}
+use Rattle.raft_log.specs.Words.{room, runCount, runTerm, firstFrom, putRun, pick}
+use Rattle.raft_log.specs.State.{Good, lastOf, broken, termAt}
+use Rattle.raft_log.specs.Run.{misnumbered, zeroTermIn, termsSet, zeroAt}
+use Rattle.raft_log.specs.Append.{refuseIf, cuts, accepted, decide, matchRun, appendAnswer, outside, mismatched, differs, cutIf, commitUp, afterMessage, overfull, appendStore, storeIf}
+use Rattle.log_laws.specs.View.{runEntry, listed, runEntries, view-of, messageOf}
+use Rattle.raft_log.proofs.States.{split, refuted, ok-good, term-below, term-beyond}
+use Rattle.raft_log.proofs.Searching.{below-or-not, found}
+use Rattle.log_laws.proofs.Cutting.{view-cut}
+use Rattle.log_laws.proofs.Views.{same?, length-listed, at-listed, drop-listed, view-length, view-last, view-term}
+
+-- ---- step 2
+
+and-false : (b : Bool) → b && false ≡ false
+and-false true = refl
+and-false false = refl
+
+not-not : (b : Bool) → not (not b) ≡ b
+not-not true = refl
+not-not false = refl
+
+module _ (l : Log) (settled pending : List ℕ) (good : Good l settled pending) where
+  -- outside the log the term is 0
+  no-term : (i : ℕ) → (i < l .start .0) ⊎ (lastOf l < i) → termAt l settled pending i ≡ 0
+  no-term i h =
+      ⊎-elim
+      (λ a. term-below l settled pending i a)
+      (λ a. let g = good .start<offset in term-beyond l settled pending i (omega arith) (omega arith) (omega arith))
+      h
+
+module _ (l : Log) (settled pending : List ℕ) (good : Good l settled pending) (idx term : ℕ) where
+  contains-is : contains (view-of l settled pending) idx term
+      ≡ (leb (l .start .0) idx && leb idx (lastOf l) && eqb (termAt l settled pending idx) term)
+  unfolding contains view-of
+  contains-is =
+      ap₂ (λ (x y : ℕ). leb (l .start .0) idx && leb idx x && eqb y term) (view-last l settled pending good) (view-term l settled pending good idx)
+
+  not-there : leb (l .start .0) idx && leb idx (lastOf l) ≡ false → outside l idx term || mismatched l settled pending idx term ≡ true
+      → contains (view-of l settled pending) idx term ≡ not (outside l idx term || mismatched l settled pending idx term)
+  not-there h k = contains-is ∙ ap (λ (b : Bool). b && eqb (termAt l settled pending idx) term) h ∙ ap not (sym k)
+
+  far : (idx < l .start .0) ⊎ (lastOf l < idx) → ltb idx (l .start .0) || ltb (lastOf l) idx ≡ true
+      → outside l idx term || mismatched l settled pending idx term ≡ true
+  unfolding outside
+  far w h =
+      ⊎-elim
+      (λ z. simp (h, eq-eqb term 0 z))
+      (λ z. simp (ne-eqb term 0 z, no-term l settled pending good idx w, ne-eqb 0 term (λ e. z (sym e))))
+      (same? term 0)
+
+  here : l .start .0 ≤ idx → idx ≤ lastOf l
+      → contains (view-of l settled pending) idx term ≡ not (outside l idx term || mismatched l settled pending idx term)
+  unfolding outside
+  here a b =
+      contains-is
+      ∙ simp (
+        le-leb _ _ a,
+        le-leb _ _ b,
+        le-ltb _ _ a,
+        le-ltb _ _ b,
+        and-false,
+        not-not,
+      )
+
+  -- STEP 2 replies false exactly where 4 or 5 refuses.
+  pub step-2-is : contains (view-of l settled pending) idx term ≡ not (outside l idx term || mismatched l settled pending idx term)
+  step-2-is =
+      ⊎-elim
+      (λ a. not-there (simp (lt-leb (l .start .0) idx a)) (far (inl a) (simp (lt-ltb idx (l .start .0) a))))
+      (λ a.
+      ⊎-elim
+      (λ b. not-there (simp (lt-leb idx (lastOf l) b, and-false)) (far (inr b) (simp (le-ltb idx (l .start .0) a, lt-ltb (lastOf l) idx b))))
+      (λ b. here a b)
+      (below-or-not (lastOf l) idx))
+      (below-or-not idx (l .start .0))
+
+  -- what step 2 lets through has its previous record in the log
+  inside : contains (view-of l settled pending) idx term ≡ true → (l .start .0 ≤ idx) × (idx ≤ lastOf l)
+  inside h =
+      let s = split _ _ (sym contains-is ∙ h) in
+      let r = split _ _ (s .0) in
+      (leb-true _ _ (r .0), leb-true _ _ (r .1))
+
+-- ---- steps 3 and 4
+
+module _ (l : Log) (settled pending : List ℕ) (good : Good l settled pending) (idx : ℕ) (run : List ℕ)
+    (start≤idx : l .start .0 ≤ idx) (idx≤last : idx ≤ lastOf l) (set : (j : ℕ) → j < runCount run → runTerm run j ≡ 0 → ⊥) where
+  -- how many records the run has, and how many of them come before the first that differs
+  abbrev n : ℕ
+  n = runCount run
+
+  abbrev k : ℕ
+  k = firstFrom (differs l settled pending idx run) 0 n
+
+  abbrev v : Abstract
+  v = view-of l settled pending
+
+  abbrev es : List Entry
+  es = runEntries run
+
+  es-length : length es ≡ n
+  es-length = length-listed (runEntry run) 0 n
+
+  k≤n : k ≤ n
+  k≤n = omega (arith, found (differs l settled pending idx run) 0 n .within)
+
+  conflict-is : (j : ℕ) → j < n
+      → conflict-at v (idx + 1) es j ≡ (ltb (l .start .0) (idx + 1 + j) && leb (idx + 1 + j) (lastOf l) && differs l settled pending idx run j)
+  unfolding view-of
+  conflict-is j h =
+      let same : getD es j nothing ≡ runEntry run j = at-listed (runEntry run) 0 n j h ∙ ap (runEntry run) (omega arith) in
+      ap (λ (e : Entry). conflicts v (idx + 1 + j) e) same
+      ∙ ap₂ (λ (x y : ℕ). ltb (l .start .0) (idx + 1 + j) && leb (idx + 1 + j) x && not (eqb (runTerm run j) y)) (view-last l settled pending good) (view-term l settled pending good (idx + 1 + j))
+
+  before : (j : ℕ) → j < k → conflict-at v (idx + 1) es j ≡ false
+  before j h =
+      let within : j < n = omega (arith, k≤n) in
+      conflict-is j within
+      ∙ ap (λ (b : Bool). ltb (l .start .0) (idx + 1 + j) && leb (idx + 1 + j) (lastOf l) && b) (found (differs l settled pending idx run) 0 n .passed j (omega arith) h)
+      ∙ and-false (ltb (l .start .0) (idx + 1 + j) && leb (idx + 1 + j) (lastOf l))
+
+  beyond : (j : ℕ) → j < n → lastOf l < idx + 1 + j → conflict-at v (idx + 1) es j ≡ false
+  beyond j h b = conflict-is j h ∙ simp (lt-leb _ _ b, and-false)
+
+  hit : k < n → idx + 1 + k ≤ lastOf l → conflict-at v (idx + 1) es k ≡ true
+  hit h b =
+      let differ = found (differs l settled pending idx run) 0 n .hit (omega arith) in
+      conflict-is k h
+      ∙ ap (λ (d : Bool). ltb (l .start .0) (idx + 1 + k) && leb (idx + 1 + k) (lastOf l) && d) differ
+      ∙ simp (lt-ltb (l .start .0) (idx + 1 + k) (omega arith), le-leb _ _ b)
+
+  -- a record before the first that differs has a term, so the log has one at its index
+  held : idx + k ≤ lastOf l
+  held =
+      ⊎-elim
+      (λ far.
+      let j : ℕ = k - 1 in
+      let less : j < k = omega arith in
+      let passed = found (differs l settled pending idx run) 0 n .passed j (omega arith) less in
+      let same : runTerm run j ≡ termAt l settled pending (idx + 1 + j) = eqb-true _ _ (not-false _ passed) in
+      absurd (set j (omega (arith, k≤n)) (same ∙ no-term l settled pending good (idx + 1 + j) (inr (omega arith)))))
+      (λ near. near)
+      (below-or-not (lastOf l) (idx + k))
+
+  -- step 4 on a log that ends where the run's record k is the next
+  ends : (d : Abstract) → last d ≡ idx + k → step-4 d idx es ≡ with-entries d (d .entries ++ drop k es)
+  unfolding step-4
+  ends d h = let e : last d - idx ≡ k = omega arith in ap (λ (x : ℕ). with-entries d (d .entries ++ drop x es)) e
+
+  abbrev stay : List Entry
+  stay = take (idx + 1 + k - l .start .0 - 1) (v .entries)
+
+  cut-inside : k < n → idx + 1 + k ≤ lastOf l → step-4 (step-3 v (idx + 1) es) idx es ≡ with-entries v (stay ++ drop k es)
+  unfolding view-of
+  cut-inside h b =
+      let long = view-length l settled pending good in
+      ap (λ (d : Abstract). step-4 d idx es) (step-3-deletes v (idx + 1) k es (omega (arith, es-length)) before (hit h b))
+      ∙ ends (with-entries v stay) (omega (arith, length-take-le (idx + 1 + k - l .start .0 - 1) (v .entries) (omega arith)))
+
+  cut-end : k < n → lastOf l < idx + 1 + k → step-4 (step-3 v (idx + 1) es) idx es ≡ with-entries v (stay ++ drop k es)
+  cut-end h b =
+      let long = view-length l settled pending good in
+      let step : step-3 v (idx + 1) es ≡ v =
+      step-3-keeps v (idx + 1) es (λ j q. ⊎-elim (λ a. before j a) (λ a. beyond j (omega (arith, es-length)) (omega arith)) (below-or-not j k)) in
+      ap (λ (d : Abstract). step-4 d idx es) step
+      ∙ ends v (omega (arith, view-last l settled pending good, held))
+      ∙ ap (λ (x : List Entry). with-entries v (x ++ drop k es)) (sym (take-all (idx + 1 + k - l .start .0 - 1) (v .entries) (omega (arith, held))))
+
+  steps-cut : k < n → step-4 (step-3 v (idx + 1) es) idx es ≡ with-entries v (stay ++ drop k es)
+  steps-cut h = ⊎-elim (λ b. cut-end h b) (λ b. cut-inside h b) (below-or-not (lastOf l) (idx + 1 + k))
+
+  steps-none : n ≤ k → step-4 (step-3 v (idx + 1) es) idx es ≡ v
+  unfolding step-4
+  steps-none h =
+      let step : step-3 v (idx + 1) es ≡ v = step-3-keeps v (idx + 1) es (λ j q. before j (omega (arith, es-length))) in
+      let past : length es ≤ last v - idx = omega (arith, es-length, held, view-last l settled pending good) in
+      ap (λ (d : Abstract). step-4 d idx es) step
+      ∙ ap (λ (x : List Entry). with-entries v (v .entries ++ x)) (drop-of-length-le es past)
+      ∙ ap (with-entries v) (append-nil (v .entries))
+
+  -- ---- the whole answer
+
+  module _ (commit : ℕ) where
+    -- the log after the message, and the pending store, by whether there is a conflict
+    abbrev after : Bool → Log
+    after b = commitUp (cutIf b l (idx + 1 + k) (idx + n)) commit (idx + n)
+
+    abbrev result : Bool → Abstract
+    result b =
+        view-of (after b) settled
+        (appendStore (Done (indexOf (pick b (idx + 1 + k) 0)) (indexOf (idx + n)) (after b)) pending idx run)
+
+    result-none : v ≡ result false
+    unfolding appendStore view-of
+    result-none = refl
+
+    result-cut : k < n → after true .count ≤ room pending → with-entries v (stay ++ drop k es) ≡ result true
+    unfolding appendStore view-of
+    result-cut h r =
+        let conflict : ℕ = idx + 1 + k in
+        let from : ℕ = conflict - idx - 1 in
+        let many : ℕ = idx + n + 1 - conflict in
+        let store : List ℕ = putRun pending (conflict - min (l .offset .0) conflict) run from many in
+        let rest : drop k es ≡ listed (runEntry run) from many =
+        drop-listed (runEntry run) 0 n k k≤n ∙ ap₂ (listed (runEntry run)) (omega arith) (omega arith) in
+        ap (λ (x : List Entry). with-entries v (stay ++ x)) rest
+        ∙ sym (view-cut l settled pending good conflict (omega arith) (omega (arith, held)) run from many (idx + n) (min (l .persisted .0) (conflict - 1)) (omega arith) r)
+        ∙ ap (λ (b : Bool). view-of (after true) settled (storeIf b pending store)) (sym (ne-eqb conflict 0 (omega arith)))
+
+    -- STEPS 3 AND 4 on the view are the cut and the write.
+    steps-are : overfull (afterMessage l idx n k commit) pending ≡ false → step-4 (step-3 v (idx + 1) es) idx es ≡ result (ltb k n)
+    steps-are r =
+        ⊎-elim
+        (λ h.
+        let cuts : ltb k n ≡ true = lt-ltb k n h in
+        let fits : after (ltb k n) .count ≤ room pending = ltb-false _ _ r in
+        steps-cut h ∙ result-cut h (rw cuts at fits) ∙ ap result (sym cuts))
+        (λ h. steps-none h ∙ result-none ∙ ap result (sym (le-ltb k n h)))
+        (below-or-not k n)
+
+-- ---- step 5
+
+-- committed is the larger of itself and what step 5 says
+raised : (c m x : ℕ) → max c (min m x) ≡ max c (step-5 c m x)
+unfolding step-5
+raised c m x =
+    ⊎-elim
+    (λ h. ap (λ (b : Bool). max c (commit-if b (min m x) c)) (sym (lt-ltb c m h)))
+    (λ h. same c (min m x) (omega arith) ∙ ap (λ (b : Bool). max c (commit-if b (min m x) c)) (sym (le-ltb c m h)))
+    (below-or-not c m)
+  where
+    same : (a b : ℕ) → b ≤ a → max a b ≡ max a a
+    same a b h = omega arith
+
+-- ---- the theorem
+
+cut-committed : (b : Bool) (l : Log) (conflict last : ℕ) → cutIf b l conflict last .committed ≡ l .committed
+cut-committed true l conflict last = refl
+cut-committed false l conflict last = refl
+
+-- a run whose terms pass the check
+terms-set : (run : List ℕ) → termsSet run ≡ true → (j : ℕ) → j < runCount run → runTerm run j ≡ 0 → ⊥
+unfolding termsSet
+terms-set run h j r =
+    let whole : firstFrom (zeroAt run) 0 (runCount run) ≡ runCount run = eqb-true _ _ h in
+    eqb-false _ _ (found (zeroAt run) 0 (runCount run) .passed j (omega arith) (omega arith))
+
+no-done : {r : ℕ} {c m : Index} {a : Log} → Refused r ≡ Done c m a → ⊥
+no-done h =
+    let z : _≡_ {A = ℕ} 0 1 = cc in
+    omega arith
+
+inverted : (b : Bool) (r : ℕ) (x : Appended) {c m : Index} {a : Log} → refuseIf b r x ≡ Done c m a → (b ≡ false) × (x ≡ Done c m a)
+inverted true r x h = absurd (no-done h)
+inverted false r x h = (refl, h)
+
+-- a refusal by s is none by r
+declined : (b : Bool) (r s : ℕ) (x : Appended) → (r ≡ s → ⊥) → refuseIf b r x ≡ Refused s → (b ≡ false) × (x ≡ Refused s)
+declined true r s x other h = absurd (other (cc))
+declined false r s x other h = (refl, h)
+
+neither : (a b : Bool) → not (a || b) ≡ true → (a ≡ false) × (b ≡ false)
+neither true b h = absurd (false≢true h)
+neither false true h = absurd (false≢true h)
+neither false false h = (refl, refl)
+
+module _ (l : Log) (settled pending : List ℕ) (idx term commit : ℕ) (run : List ℕ) where
+  -- what the paper's receiver answers
+  abbrev pub by-the-paper : Answer
+  by-the-paper = receiver (view-of l settled pending) (l .committed .0) (messageOf idx term commit run)
+
+  -- A log and a pending store after the message are what the steps say; and committed is not lowered.
+  pub record Taken (after : Log) (store : List ℕ) : Type 0 where
+    pub commit-index : ℕ
+    pub steps : by-the-paper ≡ success (view-of after settled store) commit-index
+    pub committed : after .committed .0 ≡ max (l .committed .0) commit-index
+
+  abbrev TakenBy : Appended → Type 0
+  TakenBy (Done c m a) = Taken a (appendStore (Done c m a) pending idx run)
+  TakenBy (Refused r) = Unit {0}
+
+  abbrev count : ℕ
+  count = runCount run
+
+  abbrev alike : ℕ
+  alike = firstFrom (differs l settled pending idx run) 0 count
+
+  accepted-taken : Good l settled pending → contains (view-of l settled pending) idx term ≡ true → termsSet run ≡ true
+      → overfull (afterMessage l idx count alike commit) pending ≡ false → TakenBy (accepted idx count alike (afterMessage l idx count alike commit))
+  unfolding receiver
+  accepted-taken good there terms fits =
+      let w = inside l settled pending good idx term there in
+      let long : idx + count ≡ idx + length (runEntries run) = ap (λ (x : ℕ). idx + x) (sym (length-listed (runEntry run) 0 count)) in
+      let index : ℕ = step-5 (l .committed .0) commit (idx + length (runEntries run)) in
+      record {
+        commit-index = index;
+        steps =
+            ap
+            (λ (b : Bool). step-2 b (success (step-4 (step-3 (view-of l settled pending) (idx + 1) (runEntries run)) idx (runEntries run)) index))
+            there
+            ∙ ap (λ (d : Abstract). success d index) (steps-are l settled pending good idx run (w .0) (w .1) (terms-set run terms) commit fits);
+        committed =
+            ap (λ (x : Index). max (x .0) (min commit (idx + count))) (cut-committed (ltb alike count) l (idx + 1 + alike) (idx + count))
+            ∙ ap (λ (x : ℕ). max (l .committed .0) (min commit x)) long
+            ∙ raised (l .committed .0) commit (idx + length (runEntries run));
+      }
+
+  -- THE THEOREM, where the message is taken: the steps of the paper, in order.
+  pub taken : (c m : Index) (a : Log) → appendAnswer l settled pending idx term commit run ≡ Done c m a → Taken a (appendStore (Done c m a) pending idx run)
+  unfolding appendAnswer matchRun decide
+  taken c m a h =
+      let b1 = inverted (broken l settled pending) brokenState _ h in
+      let b2 = inverted (misnumbered run idx) misnumberedRun _ (b1 .1) in
+      let b3 = inverted (zeroTermIn run) zeroTerm _ (b2 .1) in
+      let b4 = inverted (outside l idx term) outsideLog _ (b3 .1) in
+      let b5 = inverted (mismatched l settled pending idx term) mismatch _ (b4 .1) in
+      let b6 = inverted (cuts l idx count alike) cutsCommitted _ (b5 .1) in
+      let b7 = inverted (overfull (afterMessage l idx count alike commit) pending) noRoom _ (b6 .1) in
+      let good = ok-good l settled pending (not-false _ (b1 .0)) in
+      let there = step-2-is l settled pending good idx term ∙ ap₂ (λ (x y : Bool). not (x || y)) (b4 .0) (b5 .0) in
+      subst TakenBy (b7 .1) (accepted-taken good there (not-false _ (b3 .0)) (b7 .0))
+
+  -- and where it is refused by 4 or 5: step 2 replies false
+  pub refused : (s : ℕ) → (s ≡ outsideLog) ⊎ (s ≡ mismatch) → appendAnswer l settled pending idx term commit run ≡ Refused s → by-the-paper ≡ reply-false
+  unfolding appendAnswer matchRun decide receiver
+  refused s w h =
+      let low : outsideLog ≤ s = ⊎-elim (λ e. omega arith) (λ e. omega arith) w in
+      let high : s ≤ mismatch = ⊎-elim (λ e. omega arith) (λ e. omega arith) w in
+      let b1 = declined (broken l settled pending) brokenState s _ (omega arith) h in
+      let b2 = declined (misnumbered run idx) misnumberedRun s _ (omega arith) (b1 .1) in
+      let b3 = declined (zeroTermIn run) zeroTerm s _ (omega arith) (b2 .1) in
+      let good = ok-good l settled pending (not-false _ (b1 .0)) in
+      let gone : contains (view-of l settled pending) idx term ≡ false = refuted _ (λ there.
+      let both = neither (outside l idx term) (mismatched l settled pending idx term) (sym (step-2-is l settled pending good idx term) ∙ there) in
+      let decided = sym (ap₂ (λ (x y : Bool). refuseIf x outsideLog (refuseIf y mismatch (decide l pending idx commit count alike))) (both .0) (both .1)) ∙ b3 .1 in
+      let b6 = declined (cuts l idx count alike) cutsCommitted s _ (omega arith) decided in
+      let b7 = declined (overfull (afterMessage l idx count alike commit) pending) noRoom s _ (omega arith) (b6 .1) in
+      no-done (sym (b7 .1))) in
+      ap
+      (λ (b : Bool). step-2 b (success (step-4 (step-3 (view-of l settled pending) (idx + 1) (runEntries run)) idx (runEntries run)) (step-5 (l .committed .0) commit (idx + length (runEntries run)))))
+      gone
+
+  replied : (b : Bool) (d : Abstract) (x : ℕ) → step-2 b (success d x) ≡ reply-false → b ≡ false
+  replied true d x h =
+      let z : _≡_ {A = ℕ} 0 1 = cc in
+      let no-way : ⊥ = omega arith in
+      absurd no-way
+  replied false d x h = refl
+
+  tests : (a b : Bool) → outside l idx term ≡ a → mismatched l settled pending idx term ≡ b → not (a || b) ≡ false
+      → broken l settled pending ≡ false → misnumbered run idx ≡ false → zeroTermIn run ≡ false
+      → (appendAnswer l settled pending idx term commit run ≡ Refused outsideLog) ⊎ (appendAnswer l settled pending idx term commit run ≡ Refused mismatch)
+  unfolding appendAnswer matchRun
+  tests true b o p h h1 h2 h3 = inl (simp (h1, h2, h3, o))
+  tests false true o p h h1 h2 h3 = inr (simp (h1, h2, h3, o, p))
+  tests false false o p h h1 h2 h3 = absurd (false≢true (sym h))
+
+  -- and back: where step 2 replies false to a message that 1, 2 and 3 let through, it is refused by 4 or 5
+  pub refuses : broken l settled pending ≡ false → misnumbered run idx ≡ false → zeroTermIn run ≡ false → by-the-paper ≡ reply-false
+      → (appendAnswer l settled pending idx term commit run ≡ Refused outsideLog) ⊎ (appendAnswer l settled pending idx term commit run ≡ Refused mismatch)
+  unfolding receiver
+  refuses h1 h2 h3 h =
+      let good = ok-good l settled pending (not-false _ h1) in
+      tests (outside l idx term) (mismatched l settled pending idx term) refl refl
+      (sym (step-2-is l settled pending good idx term) ∙ replied (contains (view-of l settled pending) idx term) _ _ h)
+      h1 h2 h3

@@ -1,0 +1,294 @@
+-- The view is what the calls look up: its terms are `termAt`, its last index `lastOf`. And what a write to a store does to its records: those written are the new ones, every other word stays.
+use mathlib.Core.Path.{_≡_, refl, sym, ap, ap₂, _∙_}
+use mathlib.Core.Logic.{_⊎_, ⊎-elim, inl, inr}
+use mathlib.Core.List.{List, [], _∷_, _++_}
+use Prim.Native.Nat.{ℕ, zero, suc, _+_, _-_, _*_, _≤_, _<_}
+use native.Mathlib.Omega.{arith}
+use borrow.Author.Tests.{lt-ltb, le-ltb}
+use lib.ListN.{length, getD, set, take, drop, length-append, length-set, List·getD-append, List·getD-eq-default}
+use lib.Seq.{getD-append-add, sets, length-sets, getD-set-same, getD-set-other, getD-take, getD-drop, paste, length-take-le, length-paste-head}
+use Rattle.rules.specs.Log.{Entry, nothing, last, entry-at, term-of}
+use Rattle.raft_log.specs.declared.Log.{Log}
+use Rattle.raft_log.specs.Words.{recordWords, room, putRecord, putRun, recordOf}
+use Rattle.raft_log.specs.State.{Good, lastOf, termAt}
+use Rattle.log_laws.specs.View.{storeEntry, runEntry, listed, records, view-of}
+use Rattle.raft_log.proofs.States.{term-below, term-start, term-settled, term-pending, term-beyond}
+use Rattle.raft_log.proofs.Searching.{below-or-not}
+
+pub same? : (a b : ℕ) → (a ≡ b) ⊎ (a ≡ b → ⊥)
+same? a b =
+    ⊎-elim
+    (λ lt. inr (λ e. omega arith))
+    (λ le. ⊎-elim (λ lt. inr (λ e. omega arith)) (λ ge. inl (omega arith)) (below-or-not b a))
+    (below-or-not a b)
+
+abbrev term : Entry → ℕ
+term e = e .term
+
+abbrev entry : ℕ → ℕ → Entry
+entry t b = record { term = t; body = b }
+
+-- ---- the records that a function gives
+
+pub length-listed : (f : ℕ → Entry) (k n : ℕ) → length (listed f k n) ≡ n
+unfolding listed
+length-listed f k zero = refl
+length-listed f k (suc n) = ap suc (length-listed f (k + 1) n)
+
+pub at-listed : (f : ℕ → Entry) (k n i : ℕ) → i < n → getD (listed f k n) i nothing ≡ f (k + i)
+unfolding listed
+at-listed f k zero i h = let z : ⊥ = omega arith in absurd z
+at-listed f k (suc n) zero h = ap f (omega arith)
+at-listed f k (suc n) (suc i) h = at-listed f (k + 1) n i (omega arith) ∙ ap f (omega arith)
+
+pub same-listed : (f g : ℕ → Entry) (k j n : ℕ) → ((i : ℕ) → i < n → f (k + i) ≡ g (j + i)) → listed f k n ≡ listed g j n
+unfolding listed
+same-listed f g k j zero h = refl
+same-listed f g k j (suc n) h =
+    ap₂ (λ (e : Entry) (es : List Entry). e ∷ es)
+    (ap f (omega arith) ∙ h 0 (omega arith) ∙ ap g (omega arith))
+    (same-listed f g (k + 1) (j + 1) n (λ i r. ap f (omega arith) ∙ h (suc i) (omega arith) ∙ ap g (omega arith)))
+
+pub take-listed : (f : ℕ → Entry) (k n j : ℕ) → j ≤ n → take j (listed f k n) ≡ listed f k j
+unfolding listed
+take-listed f k n zero h = refl
+take-listed f k zero (suc j) h = let z : ⊥ = omega arith in absurd z
+take-listed f k (suc n) (suc j) h = ap (λ (es : List Entry). f k ∷ es) (take-listed f (k + 1) n j (omega arith))
+
+pub drop-listed : (f : ℕ → Entry) (k n j : ℕ) → j ≤ n → drop j (listed f k n) ≡ listed f (k + j) (n - j)
+unfolding listed
+drop-listed f k n zero h =
+    let a : k ≡ k + 0 = omega arith in
+    let b : n ≡ n - 0 = omega arith in
+    ap₂ (listed f) a b
+drop-listed f k zero (suc j) h = let z : ⊥ = omega arith in absurd z
+drop-listed f k (suc n) (suc j) h =
+    let a : k + 1 + j ≡ k + suc j = omega arith in
+    let b : n - j ≡ suc n - suc j = omega arith in
+    drop-listed f (k + 1) n j (omega arith) ∙ ap₂ (listed f) a b
+
+pub append-listed : (f : ℕ → Entry) (k m n : ℕ) → listed f k (m + n) ≡ listed f k m ++ listed f (k + m) n
+unfolding listed
+append-listed f k zero n =
+    let a : k ≡ k + 0 = omega arith in
+    let b : 0 + n ≡ n = omega arith in
+    ap₂ (listed f) a b
+append-listed f k (suc m) n =
+    let e : suc m + n ≡ suc (m + n) = omega arith in
+    ap (listed f k) e
+    ∙ ap (λ (es : List Entry). f k ∷ es) (append-listed f (k + 1) m n ∙ ap (λ (x : ℕ). listed f (k + 1) m ++ listed f x n) (omega arith))
+
+-- ---- the view
+
+module _ (l : Log) (settled pending : List ℕ) (good : Good l settled pending) where
+  abbrev start : Entry
+  start = record { term = l .startterm .0; body = 0 }
+
+  abbrev front : List Entry
+  front = records (l .offset .0 - 1 - l .start .0) settled
+
+  abbrev back : List Entry
+  back = records (l .count) pending
+
+  front-length : length front ≡ l .offset .0 - 1 - l .start .0
+  front-length = length-listed (storeEntry settled) 0 (l .offset .0 - 1 - l .start .0)
+
+  back-length : length back ≡ l .count
+  back-length = length-listed (storeEntry pending) 0 (l .count)
+
+  pub view-length : length (view-of l settled pending .entries) ≡ lastOf l - l .start .0
+  unfolding view-of
+  view-length =
+      let a = good .start<offset in
+      omega (arith, length-append front back, front-length, back-length)
+
+  pub view-last : last (view-of l settled pending) ≡ lastOf l
+  unfolding view-of
+  view-last =
+      let a = good .start<offset in
+      omega (arith, length-append front back, front-length, back-length)
+
+  module _ (i : ℕ) where
+    pub entry-below : i < l .start .0 → entry-at (view-of l settled pending) i ≡ nothing
+    unfolding view-of entry-at
+    entry-below h = simp (lt-ltb _ _ h)
+
+    pub entry-start : i ≡ l .start .0 → entry-at (view-of l settled pending) i ≡ start
+    unfolding view-of entry-at
+    entry-start h =
+        let e : i - l .start .0 ≡ 0 = omega arith in
+        simp (le-ltb i (l .start .0) (omega arith), e)
+
+    after-start : l .start .0 < i → entry-at (view-of l settled pending) i ≡ getD (front ++ back) (i - l .start .0 - 1) nothing
+    unfolding view-of entry-at
+    after-start h =
+        let e : i - l .start .0 ≡ suc (i - l .start .0 - 1) = omega arith in
+        simp (le-ltb i (l .start .0) (omega arith)) (ap (λ (j : ℕ). getD (start ∷ front ++ back) j nothing) e)
+
+    pub entry-settled : l .start .0 < i → i < l .offset .0 → entry-at (view-of l settled pending) i ≡ storeEntry settled (i - l .start .0 - 1)
+    entry-settled h k =
+        after-start h
+        ∙ List·getD-append front back nothing (i - l .start .0 - 1) (omega (arith, front-length))
+        ∙ at-listed (storeEntry settled) 0 (l .offset .0 - 1 - l .start .0) (i - l .start .0 - 1) (omega arith)
+        ∙ ap (storeEntry settled) (omega arith)
+
+    in-back : l .start .0 < i → l .offset .0 ≤ i → entry-at (view-of l settled pending) i ≡ getD back (i - l .offset .0) nothing
+    in-back h k =
+        let e : i - l .start .0 - 1 ≡ length front + (i - l .offset .0) = omega (arith, front-length, good .start<offset) in
+        after-start h ∙ ap (λ (j : ℕ). getD (front ++ back) j nothing) e ∙ getD-append-add front back (i - l .offset .0) nothing
+
+    pub entry-pending : l .start .0 < i → l .offset .0 ≤ i → i - l .offset .0 < l .count
+        → entry-at (view-of l settled pending) i ≡ storeEntry pending (i - l .offset .0)
+    entry-pending h k m =
+        in-back h k
+        ∙ at-listed (storeEntry pending) 0 (l .count) (i - l .offset .0) m
+        ∙ ap (storeEntry pending) (omega arith)
+
+    pub entry-beyond : l .start .0 < i → l .offset .0 ≤ i → l .count ≤ i - l .offset .0 → entry-at (view-of l settled pending) i ≡ nothing
+    entry-beyond h k m = in-back h k ∙ List·getD-eq-default back nothing (omega (arith, back-length))
+
+    -- THE VIEW'S TERMS are the ones that the calls look up, inside the log and outside.
+    pub view-term : term-of (view-of l settled pending) i ≡ termAt l settled pending i
+    view-term =
+        ⊎-elim
+        (λ a. ap term (entry-below a) ∙ sym (term-below l settled pending i a))
+        (λ a.
+        ⊎-elim
+        (λ b. ap term (entry-start b) ∙ sym (term-start l settled pending i b))
+        (λ b.
+        ⊎-elim
+        (λ d. ap term (entry-settled (omega arith) d) ∙ sym (term-settled l settled pending i (omega arith) d))
+        (λ d.
+        ⊎-elim
+        (λ e. ap term (entry-pending (omega arith) d e) ∙ sym (term-pending l settled pending i (omega arith) d e))
+        (λ e. ap term (entry-beyond (omega arith) d e) ∙ sym (term-beyond l settled pending i (omega arith) d e))
+        (below-or-not (i - l .offset .0) (l .count)))
+        (below-or-not i (l .offset .0)))
+        (same? i (l .start .0)))
+        (below-or-not i (l .start .0))
+
+-- ---- words stored one after the other
+
+sets-before : (vs s : List ℕ) (i w : ℕ) → w < i → getD (sets s i vs) w 0 ≡ getD s w 0
+sets-before [] s i w h = refl
+sets-before (v ∷ vs) s i w h = sets-before vs (set s i v) (suc i) w (omega arith) ∙ getD-set-other s i w v 0 (omega arith)
+
+sets-after : (vs s : List ℕ) (i w : ℕ) → i + length vs ≤ w → getD (sets s i vs) w 0 ≡ getD s w 0
+sets-after [] s i w h = refl
+sets-after (v ∷ vs) s i w h = sets-after vs (set s i v) (suc i) w (omega arith) ∙ getD-set-other s i w v 0 (omega arith)
+
+sets-inside : (vs s : List ℕ) (i j : ℕ) → i + length vs ≤ length s → j < length vs → getD (sets s i vs) (i + j) 0 ≡ getD vs j 0
+sets-inside [] s i j h k = let z : ⊥ = omega arith in absurd z
+sets-inside (v ∷ vs) s i zero h k =
+    ap (λ (w : ℕ). getD (sets (set s i v) (suc i) vs) w 0) (omega arith)
+    ∙ sets-before vs (set s i v) (suc i) i (omega arith)
+    ∙ getD-set-same s i v 0 (omega arith)
+sets-inside (v ∷ vs) s i (suc j) h k =
+    let long = length-set s i v in
+    ap (λ (w : ℕ). getD (sets (set s i v) (suc i) vs) w 0) (omega arith)
+    ∙ sets-inside vs (set s i v) (suc i) j (omega arith) (omega arith)
+
+-- ---- a run put into a store
+
+pub length-put : (s : List ℕ) (at : ℕ) (run : List ℕ) (k n : ℕ) → length (putRun s at run k n) ≡ length s
+unfolding putRun
+length-put s at run k zero = refl
+length-put s at run k (suc n) =
+    length-put (putRecord s at (recordOf run k)) (at + 1) run (k + 1) n ∙ length-sets s (at * recordWords) (recordOf run k)
+
+-- every word before the records and every word behind them stays
+pub put-before : (s : List ℕ) (at : ℕ) (run : List ℕ) (k n w : ℕ) → w < at * recordWords → getD (putRun s at run k n) w 0 ≡ getD s w 0
+unfolding putRun
+put-before s at run k zero w h = refl
+put-before s at run k (suc n) w h =
+    put-before (putRecord s at (recordOf run k)) (at + 1) run (k + 1) n w (omega arith)
+    ∙ sets-before (recordOf run k) s (at * recordWords) w h
+
+pub put-after : (s : List ℕ) (at : ℕ) (run : List ℕ) (k n w : ℕ) → (at + n) * recordWords ≤ w → getD (putRun s at run k n) w 0 ≡ getD s w 0
+unfolding putRun
+put-after s at run k zero w h = refl
+put-after s at run k (suc n) w h =
+    put-after (putRecord s at (recordOf run k)) (at + 1) run (k + 1) n w (omega arith)
+    ∙ sets-after (recordOf run k) s (at * recordWords) w (omega arith)
+
+-- a word of a record put: the j-th of record at + i is the j-th of the run's record k + i
+put-word : (s : List ℕ) (at : ℕ) (run : List ℕ) (k n i j : ℕ) → at + n ≤ room s → i < n → j < recordWords
+    → getD (putRun s at run k n) ((at + i) * recordWords + j) 0 ≡ getD (recordOf run (k + i)) j 0
+unfolding putRun
+put-word s at run k zero i j r h w = let z : ⊥ = omega arith in absurd z
+put-word s at run k (suc n) zero j r h w =
+    ap (λ (x : ℕ). getD (putRun (putRecord s at (recordOf run k)) (at + 1) run (k + 1) n) x 0) (omega arith)
+    ∙ put-before (putRecord s at (recordOf run k)) (at + 1) run (k + 1) n (at * recordWords + j) (omega arith)
+    ∙ sets-inside (recordOf run k) s (at * recordWords) j (omega arith) w
+    ∙ ap (λ (x : ℕ). getD (recordOf run x) j 0) (omega arith)
+put-word s at run k (suc n) (suc i) j r h w =
+    let long = length-sets s (at * recordWords) (recordOf run k) in
+    ap (λ (x : ℕ). getD (putRun (putRecord s at (recordOf run k)) (at + 1) run (k + 1) n) x 0) (omega arith)
+    ∙ put-word (putRecord s at (recordOf run k)) (at + 1) run (k + 1) n i j (omega arith) (omega arith) w
+    ∙ ap (λ (x : ℕ). getD (recordOf run x) j 0) (omega arith)
+
+-- THE RECORDS of a store that a run was put into: the run's own where it was put, all others as they were.
+module _ (s : List ℕ) (at : ℕ) (run : List ℕ) (k n : ℕ) where
+  pub put-inside : (i : ℕ) → at + n ≤ room s → i < n → storeEntry (putRun s at run k n) (at + i) ≡ runEntry run (k + i)
+  put-inside i r h =
+      ap₂ entry
+      (ap (λ (w : ℕ). getD (putRun s at run k n) w 0) (omega arith) ∙ put-word s at run k n i 0 r h (omega arith))
+      (put-word s at run k n i 1 r h (omega arith))
+
+  pub put-below : (i : ℕ) → i < at → storeEntry (putRun s at run k n) i ≡ storeEntry s i
+  put-below i h = ap₂ entry (put-before s at run k n (i * recordWords) (omega arith)) (put-before s at run k n (i * recordWords + 1) (omega arith))
+
+  pub put-above : (i : ℕ) → at + n ≤ i → storeEntry (putRun s at run k n) i ≡ storeEntry s i
+  put-above i h = ap₂ entry (put-after s at run k n (i * recordWords) (omega arith)) (put-after s at run k n (i * recordWords + 1) (omega arith))
+
+-- ---- words copied
+
+module _ (s : List ℕ) (at : ℕ) (t : List ℕ) (n : ℕ) where
+  pub paste-before : (w : ℕ) → at ≤ length s → w < at → getD (paste s at t n) w 0 ≡ getD s w 0
+  paste-before w r h =
+      let long = length-take-le at s r in
+      List·getD-append (take at s ++ take n t) (drop (at + n) s) 0 w (omega (arith, length-append (take at s) (take n t)))
+      ∙ List·getD-append (take at s) (take n t) 0 w (omega arith)
+      ∙ getD-take at s w 0 h
+
+  pub paste-inside : (j : ℕ) → at ≤ length s → n ≤ length t → j < n → getD (paste s at t n) (at + j) 0 ≡ getD t j 0
+  paste-inside j r q h =
+      let long = length-take-le at s r in
+      let same : at + j ≡ length (take at s) + j = omega arith in
+      List·getD-append (take at s ++ take n t) (drop (at + n) s) 0 (at + j) (omega (arith, length-paste-head s at t n r q))
+      ∙ ap (λ (w : ℕ). getD (take at s ++ take n t) w 0) same
+      ∙ getD-append-add (take at s) (take n t) j 0
+      ∙ getD-take n t j 0 h
+
+  pub paste-after : (w : ℕ) → at ≤ length s → n ≤ length t → at + n ≤ w → getD (paste s at t n) w 0 ≡ getD s w 0
+  paste-after w r q h =
+      let same : w ≡ length (take at s ++ take n t) + (w - (at + n)) = omega (arith, length-paste-head s at t n r q) in
+      ap (λ (x : ℕ). getD (paste s at t n) x 0) same
+      ∙ getD-append-add (take at s ++ take n t) (drop (at + n) s) (w - (at + n)) 0
+      ∙ getD-drop (at + n) s (w - (at + n)) 0
+      ∙ ap (λ (x : ℕ). getD s x 0) (omega arith)
+
+-- THE RECORDS of a store that n records were copied into.
+module _ (s : List ℕ) (at : ℕ) (t : List ℕ) (n : ℕ) (room-here : at + n ≤ room s) (room-there : n ≤ room t) where
+  abbrev pub pasted : List ℕ
+  pasted = paste s (at * recordWords) t (n * recordWords)
+
+  pub pasted-below : (i : ℕ) → i < at → storeEntry pasted i ≡ storeEntry s i
+  pasted-below i h =
+      ap₂ entry
+      (paste-before s (at * recordWords) t (n * recordWords) (i * recordWords) (omega arith) (omega arith))
+      (paste-before s (at * recordWords) t (n * recordWords) (i * recordWords + 1) (omega arith) (omega arith))
+
+  pub pasted-inside : (i : ℕ) → i < n → storeEntry pasted (at + i) ≡ storeEntry t i
+  pasted-inside i h =
+      ap₂ entry
+      (ap (λ (w : ℕ). getD pasted w 0) (omega arith)
+      ∙ paste-inside s (at * recordWords) t (n * recordWords) (i * recordWords) (omega arith) (omega arith) (omega arith))
+      (ap (λ (w : ℕ). getD pasted w 0) (omega arith)
+      ∙ paste-inside s (at * recordWords) t (n * recordWords) (i * recordWords + 1) (omega arith) (omega arith) (omega arith))
+
+  pub pasted-above : (i : ℕ) → at + n ≤ i → storeEntry pasted i ≡ storeEntry s i
+  pasted-above i h =
+      ap₂ entry
+      (paste-after s (at * recordWords) t (n * recordWords) (i * recordWords) (omega arith) (omega arith) (omega arith))
+      (paste-after s (at * recordWords) t (n * recordWords) (i * recordWords + 1) (omega arith) (omega arith) (omega arith))

@@ -1,0 +1,48 @@
+-- What the state and the words of both stores stand for: a log of the rules (rules/specs/Log.antt). A reader must know: `view-of` lists the settled records, then the pending ones; no promise of a call cites it, it is for what is proved of them.
+use Prim.Native.Nat.{ℕ, zero, suc, _+_, _-_, _*_}
+use mathlib.Core.List.{List, [], _∷_, _++_}
+use lib.ListN.{getD}
+use Rattle.rules.specs.Log.{Entry, Log as Abstract}
+use Rattle.rules.specs.Receiver.{Message}
+use Rattle.raft_log.specs.declared.Log.{Log}
+use Rattle.raft_log.specs.Words.{recordWords, storeTerm, runCount, runTerm, runBody}
+
+-- The body of record k of a store.
+abbrev pub storeBody : List ℕ → ℕ → ℕ
+storeBody s k = getD s (k * recordWords + 1) 0
+
+-- Record k of a store, and of a run.
+abbrev pub storeEntry : List ℕ → ℕ → Entry
+storeEntry s k = record { term = storeTerm s k; body = storeBody s k }
+
+abbrev pub runEntry : List ℕ → ℕ → Entry
+runEntry run k = record { term = runTerm run k; body = runBody run k }
+
+-- The n records that f gives from k on.
+unfoldable pub listed : (ℕ → Entry) → ℕ → ℕ → List Entry
+listed f k zero = []
+listed f k (suc n) = f k ∷ listed f (k + 1) n
+
+-- The first n records of a store, and the records of a run.
+abbrev pub records : ℕ → List ℕ → List Entry
+records n s = listed (storeEntry s) 0 n
+
+abbrev pub runEntries : List ℕ → List Entry
+runEntries run = listed (runEntry run) 0 (runCount run)
+
+-- 01: "settled holds indices start+1 to offset-1, pending holds offset to last".
+unfoldable pub view-of : Log → List ℕ → List ℕ → Abstract
+view-of l settled pending = record {
+  start = l .start .0;
+  start-term = l .startterm .0;
+  entries = records (l .offset .0 - 1 - l .start .0) settled ++ records (l .count) pending;
+}
+
+-- What the arguments of `maybe_append` stand for.
+abbrev pub messageOf : ℕ → ℕ → ℕ → List ℕ → Message
+messageOf idx term commit run = record {
+  prev-log-index = idx;
+  prev-log-term = term;
+  entries = runEntries run;
+  leader-commit = commit;
+}

@@ -1,0 +1,189 @@
+-- The answer of `maybe_append`: one law for each answer, on the closed functions of specs/Append.antt; and what an answer with a conflict says to the copy.
+use mathlib.Core.Path.{_≡_, refl, sym, ap, _∙_}
+use mathlib.Core.Bool.{Bool, true, false}
+use mathlib.Core.List.{List}
+use mathlib.Core.Logic.{⊎-elim}
+use Prim.Native.Nat.{ℕ, _+_, _-_, _≤_, _<_, min, max}
+use native.Mathlib.Omega.{arith}
+use lib.Dec.{ltb}
+use borrow.Author.Tests.{eq-eqb, ne-eqb, le-leb, lt-leb, lt-ltb, le-ltb, ltb-false, not-false}
+use Rattle.units.specs.Units.{indexLimit, indexOf}
+use Rattle.units.specs.Refusals.{brokenState, misnumberedRun, zeroTerm, outsideLog, mismatch, cutsCommitted, noRoom}
+use Rattle.units.specs.declared.Index.{Index}
+use Rattle.raft_log.specs.declared.Log.{Log}
+use Rattle.raft_log.specs.declared.Appended.{Appended}
+use Rattle.raft_log.specs.declared.Appended.the-variants.{Done, Refused}
+use Rattle.raft_log.specs.declared.run.Checked.the-variants.{Records, Refused as BadRun}
+use Rattle.raft_log.specs.Words.{room, runCount, firstFrom, putRun}
+use Rattle.raft_log.specs.State.{Good, broken, termAt, lastOf}
+use Rattle.raft_log.specs.Run.{misnumbered, zeroTermIn, checkRun}
+use Rattle.raft_log.specs.Append.{withPending, withCommitted, afterMessage, outside, mismatched, cuts, overfull, differs, conflictOf, refuseIf, accepted, decide, matchRun, appendAnswer, appendStore}
+use Rattle.raft_log.proofs.States.{not-both, term-below, term-beyond}
+use Rattle.raft_log.proofs.Searching.{same-not, other-not, below-or-not}
+use Rattle.raft_log.proofs.Runs.{run-passed, run-refused, numbered-rises}
+
+-- ---- the decision
+
+module _ (l : Log) (pending : List ℕ) (idx commit n k : ℕ) where
+  pub decide-same : {moved : ℕ} → n ≤ k → l .count ≤ room pending → moved ≡ max (l .committed .0) (min commit (idx + n))
+      → decide l pending idx commit n k ≡ Done (indexOf 0) (indexOf (idx + n)) (withCommitted l moved)
+  unfolding decide
+  decide-same h r e = simp (le-ltb _ _ h, le-ltb _ _ r, e)
+
+  pub decide-cuts : k < n → idx + 1 + k ≤ l .committed .0 → decide l pending idx commit n k ≡ Refused cutsCommitted
+  unfolding decide
+  decide-cuts h c = simp (lt-ltb _ _ h, le-leb _ _ c)
+
+  pub decide-full : k < n → l .committed .0 < idx + 1 + k → room pending < idx + n + 1 - min (l .offset .0) (idx + 1 + k)
+      → decide l pending idx commit n k ≡ Refused noRoom
+  unfolding decide
+  decide-full h c r = simp (lt-ltb _ _ h, lt-leb _ _ c, lt-ltb _ _ r)
+
+  pub decide-done : {moved first persisted : ℕ}
+      → k < n → l .committed .0 < idx + 1 + k
+      → first ≡ min (l .offset .0) (idx + 1 + k)
+      → idx + n + 1 - first ≤ room pending
+      → moved ≡ max (l .committed .0) (min commit (idx + n))
+      → persisted ≡ min (l .persisted .0) (idx + 1 + k - 1)
+      → decide l pending idx commit n k
+      ≡ Done (indexOf (idx + 1 + k)) (indexOf (idx + n)) (withCommitted (withPending l first (idx + n + 1 - first) persisted) moved)
+  unfolding decide
+  decide-done h c f r m p = simp (lt-ltb _ _ h, lt-leb _ _ c, le-ltb _ _ (rw f at r), f, m, p)
+
+-- ---- the previous record
+
+module _ (l : Log) (settled pending : List ℕ) (idx term commit : ℕ) (run : List ℕ) (n : ℕ) where
+  pub match-outside : outside l idx term ≡ true → matchRun l settled pending idx term commit run n ≡ Refused outsideLog
+  unfolding matchRun
+  match-outside h = simp h
+
+  pub match-mismatch : outside l idx term ≡ false → (termAt l settled pending idx ≡ term → ⊥)
+      → matchRun l settled pending idx term commit run n ≡ Refused mismatch
+  unfolding matchRun
+  match-mismatch h e = simp (h, other-not e)
+
+  pub match-on : outside l idx term ≡ false → termAt l settled pending idx ≡ term
+      → matchRun l settled pending idx term commit run n
+      ≡ decide l pending idx commit n (firstFrom (differs l settled pending idx run) 0 n)
+  unfolding matchRun
+  match-on h e = simp (h, same-not e)
+
+-- where it matches, it is held: outside the log the term is 0, and that is refused before
+module _ (l : Log) (settled pending : List ℕ) (idx term : ℕ) (g : Good l settled pending) (u : outside l idx term ≡ false) (e : termAt l settled pending idx ≡ term) where
+  held-low : l .start .0 ≤ idx
+  unfolding outside
+  held-low =
+      ⊎-elim
+      (λ h.
+      let t : outside l idx term ≡ true = simp (eq-eqb _ _ (sym e ∙ term-below l settled pending idx h), lt-ltb _ _ h) in
+      absurd (not-both t u))
+      (λ h. h)
+      (below-or-not idx (l .start .0))
+
+  held-high : idx ≤ lastOf l
+  unfolding outside
+  held-high =
+      ⊎-elim
+      (λ h.
+      let o = g .start<offset in
+      let q : term ≡ 0 = sym e ∙ term-beyond l settled pending idx (omega arith) (omega arith) (omega arith) in
+      let t : outside l idx term ≡ true = simp (eq-eqb _ _ q, le-ltb idx (l .start .0) (omega arith), lt-ltb _ _ h) in
+      absurd (not-both t u))
+      (λ h. h)
+      (below-or-not (lastOf l) idx)
+
+  pub held-within : (l .start .0 ≤ idx) × (idx ≤ lastOf l)
+  held-within = (held-low, held-high)
+
+-- ---- the whole table
+
+module _ (l : Log) (settled pending : List ℕ) (idx term commit : ℕ) (run : List ℕ) where
+  pub answer-broken : broken l settled pending ≡ true → appendAnswer l settled pending idx term commit run ≡ Refused brokenState
+  unfolding appendAnswer
+  answer-broken h = simp h
+
+  pub answer-run : {r : ℕ} → broken l settled pending ≡ false → checkRun run idx ≡ BadRun r
+      → appendAnswer l settled pending idx term commit run ≡ Refused r
+  unfolding appendAnswer
+  answer-run h e =
+      ⊎-elim
+      (λ m. simp (h, m .0, m .1))
+      (λ t. simp (h, t .0, t .1, t .2))
+      (run-refused run idx e)
+
+  pub answer-on : {n : ℕ} → broken l settled pending ≡ false → checkRun run idx ≡ Records n
+      → appendAnswer l settled pending idx term commit run ≡ matchRun l settled pending idx term commit run n
+  unfolding appendAnswer
+  answer-on h e =
+      let p = run-passed run idx e in
+      simp (h, p .numbers, p .terms, p .count)
+
+-- ---- what an answer with a conflict says
+
+-- the records from the conflict up to last are within the run, and those from offset on have their places
+pub record Cut (places idx n : ℕ) (c m : Index) (after : Log) : Type 0 where
+  pub follows : idx < c .0
+  pub within : c .0 ≤ idx + n
+  pub last : m .0 ≡ idx + n
+  pub kept : after .offset .0 ≤ c .0
+  pub fits : m .0 + 1 - after .offset .0 ≤ places
+  pub limited : idx + n ≤ indexLimit
+
+no-done : {r : ℕ} {c m : Index} {l : Log} → Refused r ≡ Done c m l → ⊥
+no-done h =
+    let z : _≡_ {A = ℕ} 0 1 = cc in
+    omega arith
+
+inv : (b : Bool) (r : ℕ) (a : Appended) {c m : Index} {l : Log} → refuseIf b r a ≡ Done c m l → (b ≡ false) × (a ≡ Done c m l)
+inv true r a h = absurd (no-done h)
+inv false r a h = (refl, h)
+
+decide-inv : (l : Log) (pending : List ℕ) (idx commit n k : ℕ) {c m : Index} {after : Log}
+    → idx + n ≤ indexLimit → decide l pending idx commit n k ≡ Done c m after → (c .0 ≡ 0 → ⊥) → Cut (room pending) idx n c m after
+unfolding decide
+decide-inv l pending idx commit n k {c} {m} {after} limit h z =
+    let i = inv (cuts l idx n k) cutsCommitted _ h in
+    let j = inv (overfull (afterMessage l idx n k commit) pending) noRoom _ (i .1) in
+    let room-left : overfull (afterMessage l idx n k commit) pending ≡ false = j .0 in
+    let answer : accepted idx n k (afterMessage l idx n k commit) ≡ Done c m after = j .1 in
+    let conflict : indexOf (conflictOf idx n k) ≡ c = cc in
+    let last : indexOf (idx + n) ≡ m = cc in
+    let log : afterMessage l idx n k commit ≡ after = cc in
+    let f : idx + n ≡ m .0 = ap (λ (x : Index). x .0) last in
+    ⊎-elim
+    (λ lt.
+    let t : ltb k n ≡ true = lt-ltb k n lt in
+    let places : idx + n + 1 - min (l .offset .0) (idx + 1 + k) ≤ room pending = ltb-false _ _ (simp t at room-left) in
+    let e : idx + 1 + k ≡ c .0 = ap (λ (x : Index). x .0) (simp t at conflict) in
+    let g : min (l .offset .0) (idx + 1 + k) ≡ after .offset .0 = ap (λ (x : Log). x .offset .0) (simp t at log) in
+    record { follows = omega arith; within = omega arith; last = sym f; kept = omega arith; fits = omega arith; limited = limit })
+    (λ le.
+    let none : indexOf 0 ≡ c = simp (le-ltb k n le) at conflict in
+    absurd (z (sym (ap (λ (x : Index). x .0) none))))
+    (below-or-not k n)
+
+pub answer-cut : (l : Log) (settled pending : List ℕ) (idx term commit : ℕ) (run : List ℕ) {c m : Index} {after : Log}
+    → appendAnswer l settled pending idx term commit run ≡ Done c m after → (c .0 ≡ 0 → ⊥)
+    → Cut (room pending) idx (runCount run) c m after
+unfolding appendAnswer matchRun
+answer-cut l settled pending idx term commit run h z =
+    let numbers = inv (misnumbered run idx) misnumberedRun _ (inv (broken l settled pending) brokenState _ h .1) in
+    let terms = inv (zeroTermIn run) zeroTerm _ (numbers .1) in
+    let before = inv (mismatched l settled pending idx term) mismatch _ (inv (outside l idx term) outsideLog _ (terms .1) .1) in
+    decide-inv l pending idx commit (runCount run) _ (numbered-rises run idx (not-false _ (numbers .0)) .limited) (before .1) z
+
+-- ---- the store
+
+module _ (pending : List ℕ) (idx : ℕ) (run : List ℕ) where
+  pub store-refused : {a : Appended} {r : ℕ} → a ≡ Refused r → pending ≡ appendStore a pending idx run
+  unfolding appendStore
+  store-refused e = sym (ap (λ (a : Appended). appendStore a pending idx run) e)
+
+  pub store-same : (c m : Index) (l : Log) → c .0 ≡ 0 → pending ≡ appendStore (Done c m l) pending idx run
+  unfolding appendStore
+  store-same c m l e = simp (eq-eqb _ _ e)
+
+  pub store-cut : (c m : Index) (l : Log) → (c .0 ≡ 0 → ⊥)
+      → putRun pending (c .0 - l .offset .0) run (c .0 - idx - 1) (m .0 + 1 - c .0) ≡ appendStore (Done c m l) pending idx run
+  unfolding appendStore
+  store-cut c m l e = simp (ne-eqb _ _ e)

@@ -1,0 +1,142 @@
+-- The answer of `append`: one law for each answer, on the closed functions of specs/Extend.antt; and what an answer with records says to the copy.
+use mathlib.Core.Path.{_≡_, refl, sym, ap}
+use mathlib.Core.Bool.{Bool, true, false}
+use mathlib.Core.List.{List}
+use mathlib.Core.Logic.{⊎-elim}
+use Prim.Native.Nat.{ℕ, _+_, _-_, _≤_, _<_, min}
+use native.Mathlib.Omega.{arith}
+use lib.ListN.{length}
+use borrow.Author.Tests.{eq-eqb, ne-eqb, le-leb, lt-leb, lt-ltb, le-ltb, ltb-false}
+use Rattle.units.specs.Units.{indexOf}
+use Rattle.units.specs.Refusals.{brokenState, misnumberedRun, zeroTerm, cutsCommitted, noRoom, outOfRange}
+use Rattle.units.specs.declared.Index.{Index}
+use Rattle.raft_log.specs.declared.Log.{Log}
+use Rattle.raft_log.specs.declared.Extended.{Extended}
+use Rattle.raft_log.specs.declared.Extended.the-variants.{Last, Refused}
+use Rattle.raft_log.specs.declared.run.Checked.the-variants.{Records, Refused as BadRun}
+use Rattle.raft_log.specs.Words.{room, runCount, putRun, firstFrom}
+use Rattle.raft_log.specs.State.{lastOf, broken}
+use Rattle.raft_log.specs.Run.{termsSet, zeroTermIn, checkRun}
+use Rattle.raft_log.specs.Append.{withPending, overfull}
+use Rattle.raft_log.specs.Extend.{firstOf, extended, badRun, startsCommitted, leavesGap, startsPersisted, refuseIf, extendFrom, extendAnswer, extendStore}
+use Rattle.raft_log.proofs.Runs.{run-passed, run-refused}
+
+-- ---- a run that is not empty
+
+module _ (l : Log) (pending : List ℕ) (first n : ℕ) where
+  pub extend-committed : first ≤ l .committed .0 → extendFrom l pending first n ≡ Refused cutsCommitted
+  unfolding extendFrom
+  extend-committed h = simp (le-leb _ _ h)
+
+  module _ (above : l .committed .0 < first) where
+    pub extend-gap : lastOf l + 1 < first → extendFrom l pending first n ≡ Refused outOfRange
+    unfolding extendFrom
+    extend-gap h = simp (lt-leb _ _ above, lt-ltb _ _ h)
+
+    module _ (follows : first ≤ lastOf l + 1) where
+      pub extend-full : room pending < first + n - 1 + 1 - min (l .offset .0) first → extendFrom l pending first n ≡ Refused noRoom
+      unfolding extendFrom
+      extend-full h = simp (lt-leb _ _ above, le-ltb _ _ follows, lt-ltb _ _ h)
+
+      pub extend-persisted : first + n - 1 + 1 - min (l .offset .0) first ≤ room pending → first ≤ l .persisted .0
+          → extendFrom l pending first n ≡ Refused outOfRange
+      unfolding extendFrom
+      extend-persisted r h = simp (lt-leb _ _ above, le-ltb _ _ follows, le-ltb _ _ r, le-leb _ _ h)
+
+      pub extend-last : {offset count : ℕ}
+          → offset ≡ min (l .offset .0) first → count ≡ first + n - 1 + 1 - min (l .offset .0) first → count ≤ room pending
+          → l .persisted .0 < first
+          → extendFrom l pending first n ≡ Last (indexOf (first + n - 1)) (withPending l offset count (l .persisted .0))
+      unfolding extendFrom
+      extend-last o e r h = simp (lt-leb _ _ above, le-ltb _ _ follows, le-ltb _ _ (rw e at r), lt-leb _ _ h, o, e)
+
+-- ---- the whole table
+
+no-zero-term : (run : List ℕ) → length run ≡ 0 → zeroTermIn run ≡ false
+unfolding termsSet firstFrom
+no-zero-term run e =
+    let z : runCount run ≡ 0 = omega arith in
+    simp z
+
+module _ (l : Log) (settled pending run : List ℕ) where
+  pub extend-broken : broken l settled pending ≡ true → extendAnswer l settled pending run ≡ Refused brokenState
+  unfolding extendAnswer
+  extend-broken h = simp h
+
+  module _ (ok : broken l settled pending ≡ false) where
+    pub extend-empty : length run ≡ 0 → extendAnswer l settled pending run ≡ Last (indexOf (lastOf l)) l
+    unfolding extendAnswer
+    extend-empty e = simp (ok, eq-eqb _ _ e, no-zero-term run e)
+
+    module _ (some : length run ≡ 0 → ⊥) where
+      pub extend-zero : firstOf run ≡ 0 → extendAnswer l settled pending run ≡ Refused misnumberedRun
+      unfolding extendAnswer
+      extend-zero h = simp (ok, ne-eqb _ _ some, eq-eqb _ _ h)
+
+      module _ (starts : firstOf run ≡ 0 → ⊥) where
+        pub extend-run : {r : ℕ} → checkRun run (firstOf run - 1) ≡ BadRun r → extendAnswer l settled pending run ≡ Refused r
+        unfolding extendAnswer
+        extend-run e =
+            ⊎-elim
+            (λ m. simp (ok, ne-eqb _ _ some, ne-eqb _ _ starts, m .0, m .1))
+            (λ t. simp (ok, ne-eqb _ _ some, ne-eqb _ _ starts, t .0, t .1, t .2))
+            (run-refused run (firstOf run - 1) e)
+
+        pub extend-on : {n : ℕ} → checkRun run (firstOf run - 1) ≡ Records n
+            → extendAnswer l settled pending run ≡ extendFrom l pending (firstOf run) n
+        unfolding extendAnswer
+        extend-on e =
+            let p = run-passed run (firstOf run - 1) e in
+            simp (ok, ne-eqb _ _ some, ne-eqb _ _ starts, p .numbers, p .terms, p .count)
+
+-- ---- what an answer with records says
+
+-- the records from offset on have their places, and the run begins among them
+pub record Extends (places first n : ℕ) (after : Log) : Type 0 where
+  pub kept : after .offset .0 ≤ first
+  pub fits : first + n - after .offset .0 ≤ places
+
+no-last : {r : ℕ} {m : Index} {l : Log} → Refused r ≡ Last m l → ⊥
+no-last h =
+    let z : _≡_ {A = ℕ} 0 1 = cc in
+    omega arith
+
+inv : (b : Bool) (r : ℕ) (a : Extended) {m : Index} {l : Log} → refuseIf b r a ≡ Last m l → (b ≡ false) × (a ≡ Last m l)
+inv true r a h = absurd (no-last h)
+inv false r a h = (refl, h)
+
+from-inv : (l : Log) (pending : List ℕ) (first n : ℕ) {m : Index} {after : Log} → extendFrom l pending first n ≡ Last m after
+    → Extends (room pending) first n after
+unfolding extendFrom
+from-inv l pending first n {m} {after} h =
+    let gap = inv (leavesGap l first) outOfRange _ (inv (startsCommitted l first) cutsCommitted _ h .1) in
+    let full = inv (overfull (extended l first n) pending) noRoom _ (gap .1) in
+    let answer : Last (indexOf (first + n - 1)) (extended l first n) ≡ Last m after = inv (startsPersisted l first) outOfRange _ (full .1) .1 in
+    let places : first + n - 1 + 1 - min (l .offset .0) first ≤ room pending = ltb-false _ _ (full .0) in
+    let same : extended l first n ≡ after = cc in
+    let e : min (l .offset .0) first ≡ after .offset .0 = ap (λ (x : Log). x .offset .0) same in
+    record { kept = omega arith; fits = omega arith }
+
+pub extend-cut : (l : Log) (settled pending run : List ℕ) {m : Index} {after : Log} → extendAnswer l settled pending run ≡ Last m after
+    → (length run ≡ 0 → ⊥) → Extends (room pending) (firstOf run) (runCount run) after
+unfolding extendAnswer
+extend-cut l settled pending run h some =
+    let numbers = inv (badRun run) misnumberedRun _ (inv (broken l settled pending) brokenState _ h .1) in
+    let terms = inv (zeroTermIn run) zeroTerm _ (numbers .1) in
+    from-inv l pending (firstOf run) (runCount run) (simp (ne-eqb _ _ some) at (terms .1))
+
+-- ---- the store
+
+module _ (pending run : List ℕ) where
+  pub store-refused : {a : Extended} {r : ℕ} → a ≡ Refused r → pending ≡ extendStore a pending run
+  unfolding extendStore
+  store-refused e = sym (ap (λ (a : Extended). extendStore a pending run) e)
+
+  pub store-empty : (m : Index) (l : Log) → length run ≡ 0 → pending ≡ extendStore (Last m l) pending run
+  unfolding extendStore
+  store-empty m l e = simp (eq-eqb _ _ e)
+
+  pub store-put : (m : Index) (l : Log) → (length run ≡ 0 → ⊥)
+      → putRun pending (firstOf run - l .offset .0) run 0 (runCount run) ≡ extendStore (Last m l) pending run
+  unfolding extendStore
+  store-put m l e = simp (ne-eqb _ _ e)

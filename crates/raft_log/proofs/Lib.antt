@@ -1,0 +1,16 @@
+pub mod States
+pub mod Searching
+pub mod Putting
+pub mod Runs
+pub mod Conflicts
+pub mod Appending
+pub mod Extending
+pub mod Looks
+pub mod Commits
+pub mod Downwards
+pub mod Slices
+pub mod Parts
+pub mod Copying
+pub mod Settling
+pub mod Setups
+pub mod Unique

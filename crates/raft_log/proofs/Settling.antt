@@ -1,0 +1,88 @@
+-- The laws of specs/Settle.antt: one for each answer of `stable_entries`, what an answer that is no refusal tells, and the settled store after each.
+use mathlib.Core.Path.{_≡_, refl, sym, ap}
+use mathlib.Core.Bool.{Bool, true, false, not}
+use mathlib.Core.List.{List}
+use Prim.Native.Nat.{ℕ, _+_, _-_, _*_, _≤_, _<_}
+use native.Mathlib.Omega.{arith}
+use lib.Seq.{paste}
+use borrow.Author.Tests.{eq-eqb, ne-eqb, lt-ltb, le-ltb, eqb-true, eqb-false, ltb-false, not-true, not-false}
+use Rattle.units.specs.Refusals.{brokenState, noRoom, notPending}
+use Rattle.raft_log.specs.declared.Log.{Log}
+use Rattle.raft_log.specs.declared.Changed.{Changed}
+use Rattle.raft_log.specs.declared.Changed.the-variants.{Now, Refused}
+use Rattle.raft_log.specs.Words.{room, recordWords}
+use Rattle.raft_log.specs.State.{Good, broken, termAt, lastOf}
+use Rattle.raft_log.specs.Append.{withPending}
+use Rattle.raft_log.specs.Commit.{refuseIf}
+use Rattle.raft_log.specs.Settle.{isLast, settledOverfull, settledLog, settleAnswer, settleStore}
+use Rattle.raft_log.proofs.States.{split, refuted, ok-good}
+
+module _ (l : Log) (settled pending : List ℕ) (i t : ℕ) where
+  -- (i, t) is the last of some pending records
+  pub record Last : Type 0 where
+    pub some : l .count ≡ 0 → ⊥
+    pub there : i ≡ lastOf l
+    pub same : termAt l settled pending i ≡ t
+
+  last-test : Last → isLast l settled pending i t ≡ true
+  last-test h = simp (ne-eqb _ _ (h .some), eq-eqb _ _ (h .there), eq-eqb _ _ (h .same))
+
+  test-last : isLast l settled pending i t ≡ true → Last
+  test-last h =
+      let a = split _ _ h in
+      let b = split _ _ (a .0) in
+      record { some = eqb-false _ _ (not-true _ (b .0)); there = eqb-true _ _ (b .1); same = eqb-true _ _ (a .1) }
+
+  pub settle-broken : broken l settled pending ≡ true → settleAnswer l settled pending i t ≡ Refused brokenState
+  unfolding settleAnswer
+  settle-broken h = simp h
+
+  module _ (h : broken l settled pending ≡ false) where
+    pub settle-full : room settled < lastOf l - l .start .0 → settleAnswer l settled pending i t ≡ Refused noRoom
+    unfolding settleAnswer
+    settle-full r = simp (h, lt-ltb _ _ r)
+
+    pub settle-other : lastOf l - l .start .0 ≤ room settled → (Last → ⊥) → settleAnswer l settled pending i t ≡ Refused notPending
+    unfolding settleAnswer
+    settle-other r f = simp (h, le-ltb _ _ r, refuted (isLast l settled pending i t) (λ e. f (test-last e)))
+
+    pub settle-done : (last : ℕ) → last ≡ lastOf l → lastOf l - l .start .0 ≤ room settled → Last
+        → settleAnswer l settled pending i t ≡ Now (withPending l (last + 1) 0 (l .persisted .0))
+    unfolding settleAnswer
+    settle-done last e r g = simp (e, h, le-ltb _ _ r, last-test g)
+
+no-now : {r : ℕ} {a : Log} → Refused r ≡ Now a → ⊥
+no-now h =
+    let z : _≡_ {A = ℕ} 0 1 = cc in
+    omega arith
+
+inverted : (b : Bool) (r : ℕ) (x : Changed) {a : Log} → refuseIf b r x ≡ Now a → (b ≡ false) × (x ≡ Now a)
+inverted true r x h = absurd (no-now h)
+inverted false r x h = (refl, h)
+
+module _ (l : Log) (settled pending : List ℕ) where
+  pub settle-room : (i t : ℕ) {a : Log} → settleAnswer l settled pending i t ≡ Now a
+      → Good l settled pending × (lastOf l - l .start .0 ≤ room settled)
+  unfolding settleAnswer
+  settle-room i t h =
+      let s = inverted (broken l settled pending) brokenState _ h in
+      let r = inverted (settledOverfull l settled) noRoom _ (s .1) in
+      (ok-good l settled pending (not-false _ (s .0)), ltb-false _ _ (r .0))
+
+  pub settle-log : (i t : ℕ) {a : Log} → settleAnswer l settled pending i t ≡ Now a → settledLog l ≡ a
+  unfolding settleAnswer
+  settle-log i t h =
+      let s = inverted (broken l settled pending) brokenState _ h in
+      let r = inverted (settledOverfull l settled) noRoom _ (s .1) in
+      let e = inverted (not (isLast l settled pending i t)) notPending _ (r .1) in
+      cc (e .1)
+
+  pub settled-kept : {x : Changed} {r : ℕ} → x ≡ Refused r → settled ≡ settleStore x l settled pending
+  unfolding settleStore
+  settled-kept e = sym (ap (λ (x : Changed). settleStore x l settled pending) e)
+
+  pub settled-pasted : {x : Changed} {a : Log} → x ≡ Now a
+      → paste settled ((l .offset .0 - 1 - l .start .0) * recordWords) pending (l .count * recordWords)
+      ≡ settleStore x l settled pending
+  unfolding settleStore
+  settled-pasted e = sym (ap (λ (x : Changed). settleStore x l settled pending) e)

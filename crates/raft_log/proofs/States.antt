@@ -1,0 +1,105 @@
+-- The state rules as a test and as facts say the same; and the term at an index, by where the index stands.
+use mathlib.Core.Path.{_≡_, refl, sym, ap, _∙_}
+use mathlib.Core.Bool.{Bool, true, false, not, _&&_, false≢true}
+use mathlib.Core.List.{List}
+use Prim.Native.Nat.{ℕ, _-_, _≤_, _<_}
+use native.Mathlib.Omega.{arith}
+use borrow.Author.Tests.{lt-ltb, le-ltb, le-leb, eq-eqb, ne-eqb, ltb-true, leb-true}
+use Rattle.raft_log.specs.declared.Log.{Log}
+use Rattle.raft_log.specs.Words.{storeTerm}
+use Rattle.raft_log.specs.State.{Good, stateOk, broken, termAt}
+
+pub split : (a b : Bool) → a && b ≡ true → (a ≡ true) × (b ≡ true)
+split true b h = (refl, h)
+split false b h = absurd (false≢true h)
+
+-- a test that cannot be true is false
+pub refuted : (b : Bool) → (b ≡ true → ⊥) → b ≡ false
+refuted true h = absurd (h refl)
+refuted false h = refl
+
+pub not-both : {b : Bool} → b ≡ true → b ≡ false → ⊥
+not-both p q = false≢true (sym q ∙ p)
+
+module _ (l : Log) (settled pending : List ℕ) where
+  pub good-ok : Good l settled pending → stateOk l settled pending ≡ true
+  unfolding stateOk
+  good-ok g =
+      simp (
+        g .starts,
+        le-leb _ _ (g .start≤applied),
+        le-leb _ _ (g .applied≤committed),
+        le-leb _ _ (g .start≤committed),
+        le-leb _ _ (g .committed≤last),
+        le-leb _ _ (g .applied≤persisted),
+        lt-ltb _ _ (g .persisted<offset),
+        lt-ltb _ _ (g .start<offset),
+        le-leb _ _ (g .settled-room),
+        le-leb _ _ (g .pending-room),
+        le-leb _ _ (g .last≤limit),
+      )
+
+  pub ok-good : stateOk l settled pending ≡ true → Good l settled pending
+  unfolding stateOk
+  ok-good h =
+      let a = split _ _ h in
+      let b = split _ _ (a .0) in
+      let d = split _ _ (b .0) in
+      let e = split _ _ (d .0) in
+      let f = split _ _ (e .0) in
+      let g = split _ _ (f .0) in
+      let i = split _ _ (g .0) in
+      let j = split _ _ (i .0) in
+      let k = split _ _ (j .0) in
+      let m = split _ _ (k .0) in
+      record {
+        starts = m .0;
+        start≤applied = leb-true _ _ (m .1);
+        applied≤committed = leb-true _ _ (k .1);
+        start≤committed = leb-true _ _ (j .1);
+        committed≤last = leb-true _ _ (i .1);
+        applied≤persisted = leb-true _ _ (g .1);
+        persisted<offset = ltb-true _ _ (f .1);
+        start<offset = ltb-true _ _ (e .1);
+        settled-room = leb-true _ _ (d .1);
+        pending-room = leb-true _ _ (b .1);
+        last≤limit = leb-true _ _ (a .1);
+      }
+
+  -- where a rule is broken
+  pub bad-state : (Good l settled pending → ⊥) → stateOk l settled pending ≡ false
+  bad-state h = refuted _ (λ e. h (ok-good e))
+
+  -- the term at an index, by where the index stands
+  module _ (i : ℕ) where
+    pub term-below : i < l .start .0 → termAt l settled pending i ≡ 0
+    unfolding termAt
+    term-below h = simp (lt-ltb _ _ h)
+
+    pub term-start : i ≡ l .start .0 → termAt l settled pending i ≡ l .startterm .0
+    unfolding termAt
+    term-start h = simp (le-ltb i (l .start .0) (omega arith), eq-eqb _ _ h)
+
+    pub term-settled : l .start .0 < i → i < l .offset .0 → termAt l settled pending i ≡ storeTerm settled (i - l .start .0 - 1)
+    unfolding termAt
+    term-settled h k = simp (le-ltb i (l .start .0) (omega arith), ne-eqb i (l .start .0) (omega arith), lt-ltb _ _ k)
+
+    pub term-pending : l .start .0 < i → l .offset .0 ≤ i → i - l .offset .0 < l .count → termAt l settled pending i ≡ storeTerm pending (i - l .offset .0)
+    unfolding termAt
+    term-pending h k m =
+        simp (le-ltb i (l .start .0) (omega arith), ne-eqb i (l .start .0) (omega arith), le-ltb _ _ k, lt-ltb _ _ m)
+
+    pub term-beyond : l .start .0 < i → l .offset .0 ≤ i → l .count ≤ i - l .offset .0 → termAt l settled pending i ≡ 0
+    unfolding termAt
+    term-beyond h k m =
+        simp (le-ltb i (l .start .0) (omega arith), ne-eqb i (l .start .0) (omega arith), le-ltb _ _ k, le-ltb _ _ m)
+
+  -- what a passed, or failed, check of the state tells
+  pub passed : (told : Bool) → told ≡ stateOk l settled pending → told ≡ true → Good l settled pending
+  passed told e f = ok-good (sym e ∙ f)
+
+  pub sound : (told : Bool) → told ≡ stateOk l settled pending → told ≡ true → broken l settled pending ≡ false
+  sound told e f = ap not (sym e ∙ f)
+
+  pub unsound : (told : Bool) → told ≡ stateOk l settled pending → told ≡ false → broken l settled pending ≡ true
+  unsound told e f = ap not (sym e ∙ f)

@@ -1,0 +1,76 @@
+-- `settle_answer` meets its contract: each answer has its law.
+use mathlib.Core.Path.{sym, _∙_}
+use native.Mathlib.Omega.{arith}
+use borrow.Author.Needs.{needs}
+use borrow.Author.Tests.{not-true, not-false}
+use Rattle.raft_log.proofs.States.{passed, sound, unsound}
+use Rattle.raft_log.proofs.Settling.{settle-broken, settle-full, settle-other, settle-done}
+use Rattle.raft_log.proofs.settle_answer.Statement.{statement}
+use Rattle.raft_log.proofs.settle_answer.Tie as tie
+
+state-ok-requires : tie.Need-state-ok-requires
+state-ok-requires c κs = search needs
+
+returns : tie.Need-returns
+returns c = sym (settle-broken _ _ _ _ _ (unsound _ _ _ _ (c .before .state-ok .ensures) (not-true _ (c .if1 .taken))))
+
+last-of-requires : tie.Need-last-of-requires
+last-of-requires c κs = passed _ _ _ _ (c .before .state-ok .ensures) (not-false _ (c .if1 .left))
+
+sub-if2 : tie.Need-sub-if2
+sub-if2 c =
+    let s = c .before .before in
+    let g = passed _ _ _ _ (s .before .state-ok .ensures) (not-false _ (s .if1 .left)) in
+    omega arith
+
+returns-2 : tie.Need-returns-2
+returns-2 c =
+    let s = c .before .before .before in
+    sym (settle-full _ _ _ _ _ (sound _ _ _ _ (s .before .state-ok .ensures) (not-false _ (s .if1 .left))) (omega arith))
+
+returns-3 : tie.Need-returns-3
+returns-3 c =
+    let s = c .before .before .before .before .before in
+    sym (settle-other _ _ _ _ _ (sound _ _ _ _ (s .before .state-ok .ensures) (not-false _ (s .if1 .left))) (omega arith) (λ h. h .some (omega arith)))
+
+returns-4 : tie.Need-returns-4
+returns-4 c =
+    let s = c .before .before .before .before .before .before in
+    sym (settle-other _ _ _ _ _ (sound _ _ _ _ (s .before .state-ok .ensures) (not-false _ (s .if1 .left))) (omega arith) (λ h. c .if4 .taken (h .there ∙ sym (c .before .before .before .before .before .last-of .ensures))))
+
+term-at-requires : tie.Need-term-at-requires
+term-at-requires c κs =
+    let s = c .before .before .before .before .before .before in
+    passed _ _ _ _ (s .before .state-ok .ensures) (not-false _ (s .if1 .left))
+
+returns-5 : tie.Need-returns-5
+returns-5 c =
+    let s = c .before .before .before .before .before .before .before .before in
+    sym (settle-other _ _ _ _ _ (sound _ _ _ _ (s .before .state-ok .ensures) (not-false _ (s .if1 .left))) (omega arith) (λ h. c .if5 .taken (c .before .term-at .ensures ∙ h .same)))
+
+add-next : tie.Need-add-next
+add-next c =
+    let s = c .before .before .before .before .before .before .before .before in
+    let g = passed _ _ _ _ (s .before .state-ok .ensures) (not-false _ (s .if1 .left)) in
+    omega arith
+
+returns-6 : tie.Need-returns-6
+returns-6 c =
+    let s = c .before .before .before .before .before .before .before .before .before in
+    sym (settle-done _ _ _ _ _ (sound _ _ _ _ (s .before .state-ok .ensures) (not-false _ (s .if1 .left))) _ (c .before .before .before .before .before .before .before .before .last-of .ensures) (omega arith) (record { some = omega arith; there = omega arith; same = omega arith }))
+
+pub settle-answer-spec : {M : Type 1} → statement M
+settle-answer-spec =
+    tie.close
+    (tie.spec
+    state-ok-requires
+    returns
+    last-of-requires
+    sub-if2
+    returns-2
+    returns-3
+    returns-4
+    term-at-requires
+    returns-5
+    add-next
+    returns-6)

@@ -1,0 +1,73 @@
+-- The calls that move one number of the state: `commit_to`, `maybe_commit`, `applied_to`, `maybe_persist`. A reader must know: each answers the whole new log, or a refusal, or no.
+use Prim.Native.Nat.{ℕ, _-_, min}
+use mathlib.Core.Bool.{Bool, true, false, _&&_, _||_}
+use mathlib.Core.List.{List}
+use lib.Dec.{eqb, leb, ltb}
+use Rattle.units.specs.Units.{indexOf}
+use Rattle.units.specs.Refusals.{brokenState, outOfRange}
+use Rattle.raft_log.specs.declared.Log.{Log}
+use Rattle.raft_log.specs.declared.Changed.{Changed}
+use Rattle.raft_log.specs.declared.Changed.the-variants as changed
+use Rattle.raft_log.specs.declared.Decided.{Decided}
+use Rattle.raft_log.specs.declared.Decided.the-variants as decided
+use Rattle.raft_log.specs.Words.{storeTerm}
+use Rattle.raft_log.specs.State.{lastOf, broken, termAt}
+use Rattle.raft_log.specs.Append.{withCommitted, withPending}
+
+abbrev pub withApplied : Log → ℕ → Log
+withApplied l applied = record {
+  start = l .start;
+  startterm = l .startterm;
+  offset = l .offset;
+  count = l .count;
+  committed = l .committed;
+  persisted = l .persisted;
+  applied = indexOf applied;
+}
+
+abbrev pub withPersisted : Log → ℕ → Log
+withPersisted l persisted = withPending l (l .offset .0) (l .count) persisted
+
+abbrev pub refuseIf : Bool → ℕ → Changed → Changed
+refuseIf true number answer = changed.Refused number
+refuseIf false number answer = answer
+
+abbrev pub changedIf : Bool → Changed → Changed → Changed
+changedIf true a b = a
+changedIf false a b = b
+
+-- THE PROMISE of `commit_to(i)`: "nothing if i <= committed, else committed is i". 8: "`commit_to` above last".
+unfoldable pub commitTo : Log → List ℕ → List ℕ → ℕ → Changed
+commitTo l settled pending i =
+    refuseIf (broken l settled pending) brokenState
+    (changedIf (leb i (l .committed .0)) (changed.Now l)
+    (refuseIf (ltb (lastOf l) i) outOfRange (changed.Now (withCommitted l i))))
+
+-- THE PROMISE of `applied_to(i)`: "`applied_to(0)` does nothing; `applied_to(i)` makes applied i". 8: "a nonzero `applied_to` above min(committed, persisted) or below applied".
+unfoldable pub appliedTo : Log → List ℕ → List ℕ → ℕ → Changed
+appliedTo l settled pending i =
+    refuseIf (broken l settled pending) brokenState
+    (changedIf (eqb i 0) (changed.Now l)
+    (refuseIf (ltb (min (l .committed .0) (l .persisted .0)) i || ltb i (l .applied .0)) outOfRange (changed.Now (withApplied l i))))
+
+abbrev pub decideUnless : Bool → Decided → Decided
+decideUnless true answer = decided.Refused brokenState
+decideUnless false answer = answer
+
+abbrev pub yesIf : Bool → Log → Decided
+yesIf true l = decided.Yes l
+yesIf false l = decided.No
+
+-- THE PROMISE of `maybe_commit(i, t)`: "yes exactly if committed < i <= last (the upper bound is added) and term(i) = t, then commits".
+abbrev pub mayCommit : Log → List ℕ → List ℕ → ℕ → ℕ → Bool
+mayCommit l settled pending i t = ltb (l .committed .0) i && leb i (lastOf l) && eqb (termAt l settled pending i) t
+
+unfoldable pub maybeCommit : Log → List ℕ → List ℕ → ℕ → ℕ → Decided
+maybeCommit l settled pending i t = decideUnless (broken l settled pending) (yesIf (mayCommit l settled pending i t) (withCommitted l i))
+
+-- THE PROMISE of `maybe_persist(i, t)`: "yes exactly if persisted < i < offset and the settled term at i is t; then persisted is i".
+abbrev pub mayPersist : Log → List ℕ → ℕ → ℕ → Bool
+mayPersist l settled i t = ltb (l .persisted .0) i && ltb i (l .offset .0) && eqb (storeTerm settled (i - l .start .0 - 1)) t
+
+unfoldable pub maybePersist : Log → List ℕ → List ℕ → ℕ → ℕ → Decided
+maybePersist l settled pending i t = decideUnless (broken l settled pending) (yesIf (mayPersist l settled i t) (withPersisted l i))

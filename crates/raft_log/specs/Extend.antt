@@ -1,0 +1,70 @@
+-- `append` of document 01: "the cut above from its own first index, no term compared; answers the new last. An empty run answers last. `persisted` is untouched."
+-- A reader must know: `extendAnswer` is the answer with the whole new log, its refusals one ordered table; `extendStore` is the pending store after it.
+use Prim.Native.Nat.{ℕ, _+_, _-_, min}
+use mathlib.Core.Bool.{Bool, true, false, not, _&&_, _||_}
+use mathlib.Core.List.{List}
+use lib.Dec.{eqb, leb, ltb}
+use Rattle.units.specs.Units.{indexOf}
+use Rattle.units.specs.Refusals.{brokenState, misnumberedRun, zeroTerm, cutsCommitted, noRoom, outOfRange}
+use Rattle.raft_log.specs.declared.Log.{Log}
+use Rattle.raft_log.specs.declared.Extended.{Extended}
+use Rattle.raft_log.specs.declared.Extended.the-variants.{Last, Refused}
+use Rattle.raft_log.specs.Words.{room, runCount, runIndex, putRun}
+use Rattle.raft_log.specs.State.{lastOf, broken}
+use Rattle.raft_log.specs.Run.{misnumbered, zeroTermIn}
+use Rattle.raft_log.specs.Append.{cutLog, overfull, storeIf}
+use lib.ListN.{length}
+
+-- The run's own first index.
+abbrev pub firstOf : List ℕ → ℕ
+firstOf run = runIndex run 0
+
+-- The log after a run whose first index is `first`.
+abbrev pub extended : Log → ℕ → ℕ → Log
+extended l first n = cutLog l first (first + n - 1) (l .persisted .0)
+
+-- 2: "run length not a multiple of three, indices not rising by one ..", from its own first index; "`append` starting at 0"; "its last index above the limit". (An empty run has no first index.)
+abbrev pub badRun : List ℕ → Bool
+badRun run = not (eqb (length run) 0) && (eqb (firstOf run) 0 || misnumbered run (firstOf run - 1))
+
+-- 6: "`append` start, at or below committed"
+abbrev pub startsCommitted : Log → ℕ → Bool
+startsCommitted l first = leb first (l .committed .0)
+
+-- 8: "`append` leaving a gap" (before 7) "or starting at or below persisted" (after it)
+abbrev pub leavesGap : Log → ℕ → Bool
+leavesGap l first = ltb (lastOf l + 1) first
+
+abbrev pub startsPersisted : Log → ℕ → Bool
+startsPersisted l first = leb first (l .persisted .0)
+
+abbrev pub refuseIf : Bool → ℕ → Extended → Extended
+refuseIf true number answer = Refused number
+refuseIf false number answer = answer
+
+-- A run that is not empty, from its first index on.
+unfoldable pub extendFrom : Log → List ℕ → ℕ → ℕ → Extended
+extendFrom l pending first n =
+    refuseIf (startsCommitted l first) cutsCommitted
+    (refuseIf (leavesGap l first) outOfRange
+    (refuseIf (overfull (extended l first n) pending) noRoom
+    (refuseIf (startsPersisted l first) outOfRange
+    (Last (indexOf (first + n - 1)) (extended l first n)))))
+
+abbrev pub unlessEmpty : Bool → Extended → Extended → Extended
+unlessEmpty true a b = a
+unlessEmpty false a b = b
+
+-- THE PROMISE of `append`.
+unfoldable pub extendAnswer : Log → List ℕ → List ℕ → List ℕ → Extended
+extendAnswer l settled pending run =
+    refuseIf (broken l settled pending) brokenState
+    (refuseIf (badRun run) misnumberedRun
+    (refuseIf (zeroTermIn run) zeroTerm
+    (unlessEmpty (eqb (length run) 0) (Last (indexOf (lastOf l)) l)
+    (extendFrom l pending (firstOf run) (runCount run)))))
+
+-- The pending store after an answer: the whole run from its first index on; every other word as it was.
+unfoldable pub extendStore : Extended → List ℕ → List ℕ → List ℕ
+extendStore (Refused number) pending run = pending
+extendStore (Last last l) pending run = storeIf (eqb (length run) 0) pending (putRun pending (firstOf run - l .offset .0) run 0 (runCount run))

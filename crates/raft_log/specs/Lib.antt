@@ -1,0 +1,10 @@
+pub mod Words
+pub mod State
+pub mod Run
+pub mod Append
+pub mod Extend
+pub mod Commit
+pub mod Settle
+pub mod Look
+pub mod Slice
+pub mod Setup

@@ -1,0 +1,50 @@
+-- What refusals 2 and 3 say of a run. A reader must know: `misnumbered` and `zeroTermIn` are the two tests; `idx` is the index that the run follows on.
+use Prim.Native.Nat.{ℕ, _+_, _-_, _%_}
+use mathlib.Core.Bool.{Bool, true, false, not, _&&_, _||_}
+use mathlib.Core.List.{List}
+use lib.Dec.{eqb, leb}
+use lib.ListN.{length}
+use Rattle.units.specs.Units.{indexLimit}
+use Rattle.units.specs.Refusals.{misnumberedRun, zeroTerm}
+use Rattle.raft_log.specs.declared.run.Checked.{Checked}
+use Rattle.raft_log.specs.declared.run.Checked.the-variants as checked
+use Rattle.raft_log.specs.Words.{runWords, runCount, runIndex, runTerm, none, pick}
+
+-- Record k does not have the index that its place after idx asks; its term is 0.
+abbrev pub misplaced : List ℕ → ℕ → ℕ → Bool
+misplaced run idx k = not (eqb (runIndex run k) (idx + 1 + k))
+
+abbrev pub zeroAt : List ℕ → ℕ → Bool
+zeroAt run k = eqb (runTerm run k) 0
+
+-- Refusal 2 of a run after idx: "run length not a multiple of three, indices not rising by one from idx + 1, .. or idx + count .. above the limit".
+unfoldable pub numbered : List ℕ → ℕ → Bool
+numbered run idx =
+    eqb (length run % runWords) 0
+    && leb (idx + runCount run) indexLimit
+    && none (misplaced run idx) (runCount run)
+
+abbrev pub misnumbered : List ℕ → ℕ → Bool
+misnumbered run idx = not (numbered run idx)
+
+-- Refusal 3 of a run: "a zero term in a run".
+unfoldable pub termsSet : List ℕ → Bool
+termsSet run = none (zeroAt run) (runCount run)
+
+abbrev pub zeroTermIn : List ℕ → Bool
+zeroTermIn run = not (termsSet run)
+
+-- Inner: what the code's one pass over a run finds, as a number, and the check of a run by it.
+unfoldable pub scanRun : List ℕ → ℕ → ℕ → ℕ
+scanRun run idx n = pick (none (misplaced run idx) n) (pick (none (zeroAt run) n) 0 zeroTerm) misnumberedRun
+
+abbrev pub orRefuse : Bool → ℕ → Checked → Checked
+orRefuse true number c = c
+orRefuse false number c = checked.Refused number
+
+unfoldable pub checkRun : List ℕ → ℕ → Checked
+checkRun run idx = orRefuse (numbered run idx) misnumberedRun (orRefuse (termsSet run) zeroTerm (checked.Records (runCount run)))
+
+abbrev pub refusedBy : Checked → ℕ
+refusedBy (checked.Records n) = 0
+refusedBy (checked.Refused number) = number

@@ -1,0 +1,39 @@
+-- `stable_entries` of document 01: "pending's last record must be (i, t); pending is copied to settled .. and offset becomes i + 1".
+-- A reader must know: `settleAnswer` is the answer with the whole new log; `settleStore` is the settled store after it.
+use Prim.Native.Nat.{ℕ, _+_, _-_, _*_}
+use mathlib.Core.Bool.{Bool, true, false, not, _&&_}
+use mathlib.Core.List.{List}
+use lib.Dec.{eqb, ltb}
+use lib.Seq.{paste}
+use Rattle.units.specs.Refusals.{brokenState, noRoom, notPending}
+use Rattle.raft_log.specs.declared.Log.{Log}
+use Rattle.raft_log.specs.declared.Changed.{Changed}
+use Rattle.raft_log.specs.declared.Changed.the-variants as changed
+use Rattle.raft_log.specs.Words.{recordWords, room}
+use Rattle.raft_log.specs.State.{lastOf, broken, termAt}
+use Rattle.raft_log.specs.Append.{withPending}
+use Rattle.raft_log.specs.Commit.{refuseIf}
+
+-- The log with nothing pending any more.
+abbrev pub settledLog : Log → Log
+settledLog l = withPending l (lastOf l + 1) 0 (l .persisted .0)
+
+-- 7: "no room: .. settled likewise in `stable_entries`"
+abbrev pub settledOverfull : Log → List ℕ → Bool
+settledOverfull l settled = ltb (room settled) (lastOf l - l .start .0)
+
+-- 10: "`stable_entries` with nothing pending or another last record"
+abbrev pub isLast : Log → List ℕ → List ℕ → ℕ → ℕ → Bool
+isLast l settled pending i t = not (eqb (l .count) 0) && eqb i (lastOf l) && eqb (termAt l settled pending i) t
+
+-- THE PROMISE of `stable_entries`.
+unfoldable pub settleAnswer : Log → List ℕ → List ℕ → ℕ → ℕ → Changed
+settleAnswer l settled pending i t =
+    refuseIf (broken l settled pending) brokenState
+    (refuseIf (settledOverfull l settled) noRoom
+    (refuseIf (not (isLast l settled pending i t)) notPending (changed.Now (settledLog l))))
+
+-- The settled store after an answer: the pending records' words behind its own; every other word as it was.
+unfoldable pub settleStore : Changed → Log → List ℕ → List ℕ → List ℕ
+settleStore (changed.Refused number) l settled pending = settled
+settleStore (changed.Now after) l settled pending = paste settled ((l .offset .0 - 1 - l .start .0) * recordWords) pending (l .count * recordWords)

@@ -1,0 +1,67 @@
+-- Where a record stands in a store and in a run. A reader must know: a store holds its records one after the other, two words each, term then body; a run holds triples, index, term, body.
+-- The record's width stands here, in `recordWords`, `runWords` and the accessors, and nowhere else.
+use Prim.Native.Nat.{ℕ, zero, suc, _+_, _*_, _/_}
+use mathlib.Core.Bool.{Bool, true, false, not}
+use mathlib.Core.List.{List, [], _∷_}
+use lib.ListN.{length, getD}
+use lib.Dec.{eqb}
+use lib.Seq.{sets}
+
+-- 01: "Two lent stores of u64, two words a record, term then body number".
+abbrev pub recordWords : ℕ
+recordWords = 2
+
+-- 01: "the run is (index, term, body) triples".
+abbrev pub runWords : ℕ
+runWords = 3
+
+-- How many whole records a store has room for; a spare word is never used.
+abbrev pub room : List ℕ → ℕ
+room s = length s / recordWords
+
+-- The term of record k of a store, counted from 0; 0 past its end.
+abbrev pub storeTerm : List ℕ → ℕ → ℕ
+storeTerm s k = getD s (k * recordWords) 0
+
+-- How many whole records a run has, and the index, the term and the body of record k.
+abbrev pub runCount : List ℕ → ℕ
+runCount run = length run / runWords
+
+abbrev pub runIndex : List ℕ → ℕ → ℕ
+runIndex run k = getD run (k * runWords) 0
+
+abbrev pub runTerm : List ℕ → ℕ → ℕ
+runTerm run k = getD run (k * runWords + 1) 0
+
+abbrev pub runBody : List ℕ → ℕ → ℕ
+runBody run k = getD run (k * runWords + 2) 0
+
+-- Record k of a run as a store's words.
+abbrev pub recordOf : List ℕ → ℕ → List ℕ
+recordOf run k = runTerm run k ∷ runBody run k ∷ []
+
+-- A store with record `at` replaced.
+abbrev pub putRecord : List ℕ → ℕ → List ℕ → List ℕ
+putRecord s at words = sets s (at * recordWords) words
+
+-- A store with the n records of a run from record k on in place of its own from record `at` on; every other word stays.
+unfoldable pub putRun : List ℕ → ℕ → List ℕ → ℕ → ℕ → List ℕ
+putRun s at run k zero = s
+putRun s at run k (suc n) = putRun (putRecord s at (recordOf run k)) (at + 1) run (k + 1) n
+
+abbrev pub pick : Bool → ℕ → ℕ → ℕ
+pick true a b = a
+pick false a b = b
+
+-- THE ONE SEARCH: the first of the n positions from k on that p holds of, k + n where it holds of none.
+unfoldable pub firstFrom : (ℕ → Bool) → ℕ → ℕ → ℕ
+firstFrom p k zero = k
+firstFrom p k (suc n) = pick (p k) k (firstFrom p (k + 1) n)
+
+-- p holds of no position below n.
+abbrev pub none : (ℕ → Bool) → ℕ → Bool
+none p n = eqb (firstFrom p 0 n) n
+
+-- Record k + i of a run has another term than record at + i of a store.
+abbrev pub otherTerm : List ℕ → ℕ → List ℕ → ℕ → ℕ → Bool
+otherTerm s at run k i = not (eqb (runTerm run (k + i)) (storeTerm s (at + i)))
