@@ -4,3 +4,4 @@ pub mod Views
 pub mod Cutting
 pub mod Receiving
 pub mod AfterCalls
+pub mod Unmoved
