@@ -5,3 +5,4 @@ pub mod Cutting
 pub mod Receiving
 pub mod AfterCalls
 pub mod Unmoved
+pub mod Looking

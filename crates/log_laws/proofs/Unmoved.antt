@@ -1,6 +1,6 @@
 -- The calls that move one number of the state leave the records as they were: the log that they answer stands for the same list, over the same stores.
 use Prim.Native.Nat.{ℕ, min}
-use mathlib.Core.Path.{_≡_, refl, sym, ap, _∙_}
+use mathlib.Core.Path.{_≡_, refl}
 use mathlib.Core.Bool.{Bool, true, false, _||_}
 use mathlib.Core.List.{List}
 use lib.Dec.{eqb, leb, ltb}

@@ -1,0 +1,119 @@
+-- What the looking calls answer of a good log, said of the list of records that the state and the words stand for.
+use Prim.Native.Nat.{ℕ, zero, suc, _≤_, _<_}
+use mathlib.Core.Path.{_≡_, refl, sym, ap, _∙_}
+use mathlib.Core.Bool.{Bool, true, false, not}
+use mathlib.Core.List.{List}
+use mathlib.Core.Logic.{⊎-elim}
+use native.Mathlib.Omega.{arith}
+use lib.Dec.{eqb, leb, ltb}
+use borrow.Author.Tests.{leb-true, leb-false, le-leb, eqb-true, eq-eqb}
+use Rattle.units.specs.declared.Index.{Index}
+use Rattle.units.specs.declared.Term.{Term}
+use Rattle.units.specs.Units.{indexOf, termOf}
+use Rattle.rules.specs.Log.{last, term-of}
+use Rattle.raft_log.specs.declared.Log.{Log}
+use Rattle.raft_log.specs.declared.Looked.the-variants as looked
+use Rattle.raft_log.specs.declared.Placed.the-variants as placed
+use Rattle.raft_log.specs.declared.Info.the-variants as info
+use Rattle.raft_log.specs.declared.ByTerm.the-variants as byterm
+use Rattle.raft_log.specs.State.{Good, broken, agree, lastOf, termAt}
+use Rattle.raft_log.specs.Words.{pick}
+use Rattle.raft_log.specs.Look.{lookTerm, lookLast, lookLastTerm, lookCommit, lastDown, atMost, either, foundAt, byTermIn, byTerm}
+use Rattle.raft_log.proofs.Searching.{below-or-not}
+use Rattle.raft_log.proofs.States.{good-ok, term-below, term-start}
+use Rattle.log_laws.specs.View.{view-of}
+use Rattle.log_laws.specs.Looking.{FoundBelow}
+use Rattle.log_laws.proofs.Views.{view-last, view-term}
+
+-- The largest number from i down that p holds of: p holds there, and of none above it.
+pick-within : (b : Bool) (i j : ℕ) → j ≤ i → pick b (suc i) j ≤ suc i
+pick-within true i j h = omega arith
+pick-within false i j h = omega arith
+
+module _ (p : ℕ → Bool) where
+  pick-hit : (b : Bool) (i j : ℕ) → p (suc i) ≡ b → p j ≡ true → p (pick b (suc i) j) ≡ true
+  pick-hit true i j e h = e
+  pick-hit false i j e h = h
+
+  -- k is the place just passed, or lies below it
+  pick-miss : (b : Bool) (i j k : ℕ) → p (suc i) ≡ b → ((n : ℕ) → j < n → n ≤ i → p n ≡ false) → pick b (suc i) j < k → k ≤ suc i → p k ≡ false
+  pick-miss true i j k e miss h g = let z : ⊥ = omega arith in absurd z
+  pick-miss false i j k e miss h g =
+      ⊎-elim (λ a. miss k h (omega arith)) (λ a. let same : k ≡ suc i = omega arith in ap p same ∙ e) (below-or-not k (suc i))
+
+  down-within : (i : ℕ) → lastDown p i ≤ i
+  unfolding lastDown
+  down-within zero = omega arith
+  down-within (suc i) = pick-within (p (suc i)) i (lastDown p i) (down-within i)
+
+  down-hit : (i : ℕ) → p 0 ≡ true → p (lastDown p i) ≡ true
+  unfolding lastDown
+  down-hit zero h = h
+  down-hit (suc i) h = pick-hit (p (suc i)) i (lastDown p i) refl (down-hit i h)
+
+  down-miss : (i k : ℕ) → lastDown p i < k → k ≤ i → p k ≡ false
+  unfolding lastDown
+  down-miss zero k h g = let z : ⊥ = omega arith in absurd z
+  down-miss (suc i) k h g = pick-miss (p (suc i)) i (lastDown p i) k refl (down-miss i) h g
+
+module _ (l : Log) (settled pending : List ℕ) (good : Good l settled pending) where
+  sound : broken l settled pending ≡ false
+  sound = ap not (good-ok l settled pending good)
+
+  held-term : (i : ℕ) → termAt l settled pending i ≡ term-of (view-of l settled pending) i
+  held-term i = sym (view-term l settled pending good i)
+
+  last-term : termAt l settled pending (lastOf l) ≡ term-of (view-of l settled pending) (last (view-of l settled pending))
+  last-term = held-term (lastOf l) ∙ ap (term-of (view-of l settled pending)) (sym (view-last l settled pending good))
+
+  -- THE LAWS, one a call.
+  pub term-view : (i : ℕ) → lookTerm l settled pending i ≡ looked.At (termOf (term-of (view-of l settled pending) i))
+  unfolding lookTerm
+  term-view i = rw (sound, held-term i)
+
+  pub last-index-view : lookLast l settled pending ≡ placed.At (indexOf (last (view-of l settled pending)))
+  unfolding lookLast
+  last-index-view = rw (sound, view-last l settled pending good)
+
+  pub last-term-view : lookLastTerm l settled pending ≡ looked.At (termOf (term-of (view-of l settled pending) (last (view-of l settled pending))))
+  unfolding lookLastTerm
+  last-term-view = rw (sound, last-term)
+
+  pub commit-info-view : lookCommit l settled pending ≡ info.At (l .committed) (termOf (term-of (view-of l settled pending) (l .committed .0)))
+  unfolding lookCommit
+  commit-info-view = rw (sound, held-term (l .committed .0))
+
+  -- the term at 0 is 0: below the start, or at a start of (0, 0)
+  at-zero : termAt l settled pending 0 ≡ 0
+  at-zero =
+      ⊎-elim (λ h. term-below l settled pending 0 h)
+      (λ h.
+      let none : l .start .0 ≡ 0 = omega arith in
+      term-start l settled pending 0 (sym none) ∙ eqb-true (l .startterm .0) 0 (sym (ap (λ (b : Bool). agree b (eqb (l .startterm .0) 0)) (eq-eqb (l .start .0) 0 none)) ∙ good .starts))
+      (below-or-not 0 (l .start .0))
+
+  module _ (i t : ℕ) where
+    abbrev low-enough : ℕ → Bool
+    low-enough = atMost l settled pending t
+
+    abbrev down : ℕ
+    down = lastDown low-enough i
+
+    found-below : FoundBelow (view-of l settled pending) i t down (termAt l settled pending down)
+    found-below = record {
+      within = down-within low-enough i;
+      its-term = held-term down;
+      low = leb-true (termAt l settled pending down) t (down-hit low-enough i (ap (λ (n : ℕ). leb n t) at-zero ∙ le-leb 0 t (omega arith)));
+      largest = λ k h g. omega (arith, leb-false (termAt l settled pending k) t (down-miss low-enough i k h g), held-term k);
+    }
+
+    found-at : (b : Bool) (j : Index) (u : Term) → either b (byterm.Beyond (indexOf i)) (foundAt l settled pending down) ≡ byterm.Found j u → FoundBelow (view-of l settled pending) i t (j .0) (u .0)
+    found-at true j u e = let z : _≡_ {A = ℕ} 0 1 = cc in let w : ⊥ = omega arith in absurd w
+    found-at false j u e =
+        let p : indexOf down ≡ j = cc in
+        let q : termOf (termAt l settled pending down) ≡ u = cc in
+        rw (sym p, sym q) found-below
+
+    pub find-conflict-view : (j : Index) (u : Term) → byTerm l settled pending i t ≡ byterm.Found j u → FoundBelow (view-of l settled pending) i t (j .0) (u .0)
+    unfolding byTerm byTermIn
+    find-conflict-view j u e = found-at (ltb (lastOf l) i) j u (rw sound at e)
