@@ -6,3 +6,4 @@ pub mod Receiving
 pub mod AfterCalls
 pub mod Unmoved
 pub mod Looking
+pub mod Fresh

@@ -1,7 +1,7 @@
 -- What the looking calls answer of a good log, said of the list of records that the state and the words stand for.
 use Prim.Native.Nat.{ℕ, zero, suc, _≤_, _<_}
 use mathlib.Core.Path.{_≡_, refl, sym, ap, _∙_}
-use mathlib.Core.Bool.{Bool, true, false, not}
+use mathlib.Core.Bool.{Bool, true, false, not, _&&_, _||_}
 use mathlib.Core.List.{List}
 use mathlib.Core.Logic.{⊎-elim}
 use native.Mathlib.Omega.{arith}
@@ -15,10 +15,11 @@ use Rattle.raft_log.specs.declared.Log.{Log}
 use Rattle.raft_log.specs.declared.Looked.the-variants as looked
 use Rattle.raft_log.specs.declared.Placed.the-variants as placed
 use Rattle.raft_log.specs.declared.Info.the-variants as info
+use Rattle.raft_log.specs.declared.Told.the-variants as told
 use Rattle.raft_log.specs.declared.ByTerm.the-variants as byterm
 use Rattle.raft_log.specs.State.{Good, broken, agree, lastOf, termAt}
 use Rattle.raft_log.specs.Words.{pick}
-use Rattle.raft_log.specs.Look.{lookTerm, lookLast, lookLastTerm, lookCommit, lastDown, atMost, either, foundAt, byTermIn, byTerm}
+use Rattle.raft_log.specs.Look.{lookTerm, lookLast, lookLastTerm, lookCommit, lookUpToDate, lastDown, atMost, either, foundAt, byTermIn, byTerm}
 use Rattle.raft_log.proofs.Searching.{below-or-not}
 use Rattle.raft_log.proofs.States.{good-ok, term-below, term-start}
 use Rattle.log_laws.specs.View.{view-of}
@@ -117,3 +118,7 @@ module _ (l : Log) (settled pending : List ℕ) (good : Good l settled pending) 
     pub find-conflict-view : (j : Index) (u : Term) → byTerm l settled pending i t ≡ byterm.Found j u → FoundBelow (view-of l settled pending) i t (j .0) (u .0)
     unfolding byTerm byTermIn
     find-conflict-view j u e = found-at (ltb (lastOf l) i) j u (rw sound at e)
+
+  pub up-to-date-view : (i t : ℕ) → lookUpToDate l settled pending i t ≡ told.Is (ltb (term-of (view-of l settled pending) (last (view-of l settled pending))) t || (eqb t (term-of (view-of l settled pending) (last (view-of l settled pending))) && leb (last (view-of l settled pending)) i))
+  unfolding lookUpToDate
+  up-to-date-view i t = rw (sound, held-term (lastOf l), view-last l settled pending good)
