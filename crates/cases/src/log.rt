@@ -10,7 +10,7 @@ use units::Index;
 use units::Term;
 
 // Log A: start (0,0); terms of 1 to 5 are 1,1,2,2,3; offset 4; committed 2, persisted 3, applied 1. Bodies 1 to 5.
-fn log_a() -> Log {
+pub fn log_a() -> Log {
     Log {
         start: Index(0),
         startterm: Term(0),
@@ -23,11 +23,11 @@ fn log_a() -> Log {
 }
 
 // Settled holds records 1 to 3; pending holds 4 and 5, and has room for two more.
-fn settled_a() -> [u64; 6] {
+pub fn settled_a() -> [u64; 6] {
     [1, 1, 1, 2, 2, 3]
 }
 
-fn pending_a() -> [u64; 8] {
+pub fn pending_a() -> [u64; 8] {
     [2, 4, 3, 5, 0, 0, 0, 0]
 }
 
@@ -104,8 +104,8 @@ fn by_term_case(i: u64, t: u64) {
 }
 
 // A log that starts at (10,4) and holds nothing.
-fn later_case(i: u64, t: u64) {
-    let log = Log {
+pub fn later() -> Log {
+    Log {
         start: Index(10),
         startterm: Term(4),
         offset: Index(11),
@@ -113,8 +113,11 @@ fn later_case(i: u64, t: u64) {
         committed: Index(10),
         persisted: Index(10),
         applied: Index(10),
-    };
-    found(log.find_conflict_by_term(&[], &[], Index(i), Term(t)));
+    }
+}
+
+fn later_case(i: u64, t: u64) {
+    found(later().find_conflict_by_term(&[], &[], Index(i), Term(t)));
 }
 
 pub fn term_cases() {

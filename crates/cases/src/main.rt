@@ -1,4 +1,5 @@
 // Document 01's cases, run on the code: one line a case, readable beside the document.
+mod commits;
 mod log;
 
 use libc::STDOUT_FILENO;
@@ -78,7 +79,7 @@ fn smaller(a: usize, b: usize) -> usize
 }
 
 // Rows with these acknowledgements, whose ids are 1, 2, 3 and so on.
-fn acking(acks: &[u64]) -> Table {
+pub fn acking(acks: &[u64]) -> Table {
     let mut table = Table::empty();
     let mut i = 0;
     while i < acks.len() {
@@ -114,7 +115,7 @@ fn voting(votes: &[bool]) -> Table {
 }
 
 // The set of these ids.
-fn voters(ids: &[u64]) -> Voters {
+pub fn voters(ids: &[u64]) -> Voters {
     let made = Voters::new(ids);
     made.set
 }
@@ -212,7 +213,7 @@ fn too_many() -> Voters {
     }
 }
 
-fn half_broken() -> JointConfig {
+pub fn half_broken() -> JointConfig {
     JointConfig {
         incoming: Voters::empty(),
         outgoing: repeated(),
@@ -263,4 +264,5 @@ fn main() {
     log::term_cases();
     log::append_cases();
     log::by_term_cases();
+    commits::leader_cases();
 }

@@ -68,13 +68,13 @@ no-last h =
     let z : _≡_ {A = ℕ} 0 1 = cc in
     omega arith
 
-inverted : (b : Bool) (r : ℕ) (x : Extended) {i : Index} {a : Log} → refuseIf b r x ≡ Last i a → (b ≡ false) × (x ≡ Last i a)
+pub inverted : (b : Bool) (r : ℕ) (x : Extended) {i : Index} {a : Log} → refuseIf b r x ≡ Last i a → (b ≡ false) × (x ≡ Last i a)
 inverted true r x h = absurd (no-last h)
 inverted false r x h = (refl, h)
 
 module _ (l : Log) (settled pending run : List ℕ) where
   -- the view after the call, by whether the run is empty
-  abbrev Extends : Bool → Log → List ℕ → Type 0
+  abbrev pub Extends : Bool → Log → List ℕ → Type 0
   Extends true a store = view-of a settled store ≡ view-of l settled pending
   Extends false a store =
       view-of a settled store

@@ -22,7 +22,7 @@ module _ (start startterm last : ℕ) (settled pending : List ℕ) where
   abbrev held : List Entry → Abstract
   held entries = record { start = start; start-term = startterm; entries = entries }
 
-  fresh-view : view-of (fresh start startterm last) settled pending ≡ held (records (last - start) settled)
+  pub fresh-view : view-of (fresh start startterm last) settled pending ≡ held (records (last - start) settled)
   unfolding view-of listed
   fresh-view =
       let number : last + 1 - 1 - start ≡ last - start = omega arith in

@@ -31,12 +31,12 @@ use Rattle.raft_log.specs.Setup.{setupOk, settledZero, setupAnswer}
 use Rattle.raft_log.proofs.States.{split, not-both, ok-good, term-beyond}
 use Rattle.raft_log.proofs.Runs.{numbered-rises}
 use Rattle.raft_log.proofs.Searching.{found, below-or-not}
-use Rattle.log_laws.specs.Keep.{GoodChanged, GoodDecided, GoodExtended, GoodAppended}
+use Rattle.log_laws.specs.Keep.{AfterChanged, AfterDecided, AfterExtended, AfterAppended}
 
 -- ---- an answer's tests, one by one: what holds of every refusal and of what comes after the test holds of the whole
 
 module _ (P : Changed → Type 0) (refused : (n : ℕ) → P (changed.Refused n)) where
-  changed-past : (b : Bool) (n : ℕ) (x : Changed) → (b ≡ false → P x) → P (refuseIf b n x)
+  pub changed-past : (b : Bool) (n : ℕ) (x : Changed) → (b ≡ false → P x) → P (refuseIf b n x)
   changed-past true n x f = refused n
   changed-past false n x f = f refl
 
@@ -59,7 +59,7 @@ module _ (P : Appended → Type 0) (refused : (n : ℕ) → P (appended.Refused 
   appended-past false n x f = f refl
 
 decided-yes : (a b : Bool) (after : Log) (settled pending : List ℕ)
-    → (a ≡ false → b ≡ true → Good after settled pending) → GoodDecided (decideUnless a (yesIf b after)) settled pending
+    → (a ≡ false → b ≡ true → Good after settled pending) → AfterDecided Good (decideUnless a (yesIf b after)) settled pending
 decided-yes true b after settled pending f = tt
 decided-yes false true after settled pending f = f refl refl
 decided-yes false false after settled pending f = tt
@@ -148,10 +148,10 @@ module _ (l : Log) (settled pending : List ℕ) where
   sound-log : broken l settled pending ≡ false → Good l settled pending
   sound-log h = ok-good l settled pending (not-false _ h)
 
-  pub commit-to-keeps : (i : ℕ) → GoodChanged (commitTo l settled pending i) settled pending
+  pub commit-to-keeps : (i : ℕ) → AfterChanged Good (commitTo l settled pending i) settled pending
   unfolding commitTo
   commit-to-keeps i =
-      let P : Changed → Type 0 = λ a. GoodChanged a settled pending in
+      let P : Changed → Type 0 = λ a. AfterChanged Good a settled pending in
       changed-past P (λ n. tt) (broken l settled pending) brokenState _ (λ h.
       let g : Good l settled pending = sound-log h in
       changed-either P (leb i (l .committed .0)) _ _ g (λ a.
@@ -159,10 +159,10 @@ module _ (l : Log) (settled pending : List ℕ) where
       let above : l .committed .0 < i = leb-false _ _ a in
       committed-moved g i (omega (arith, g .applied≤committed)) (ltb-false _ _ b))))
 
-  pub applied-to-keeps : (i : ℕ) → GoodChanged (appliedTo l settled pending i) settled pending
+  pub applied-to-keeps : (i : ℕ) → AfterChanged Good (appliedTo l settled pending i) settled pending
   unfolding appliedTo
   applied-to-keeps i =
-      let P : Changed → Type 0 = λ a. GoodChanged a settled pending in
+      let P : Changed → Type 0 = λ a. AfterChanged Good a settled pending in
       changed-past P (λ n. tt) (broken l settled pending) brokenState _ (λ h.
       let g : Good l settled pending = sound-log h in
       changed-either P (eqb i 0) _ _ g (λ a.
@@ -170,7 +170,7 @@ module _ (l : Log) (settled pending : List ℕ) where
       let within = either-false (ltb (min (l .committed .0) (l .persisted .0)) i) (ltb i (l .applied .0)) b in
       applied-moved g i (ltb-false _ _ (within .1)) (ltb-false _ _ (within .0)))))
 
-  pub maybe-commit-keeps : (i t : ℕ) → GoodDecided (maybeCommit l settled pending i t) settled pending
+  pub maybe-commit-keeps : (i t : ℕ) → AfterDecided Good (maybeCommit l settled pending i t) settled pending
   unfolding maybeCommit
   maybe-commit-keeps i t =
       decided-yes (broken l settled pending) (mayCommit l settled pending i t) _ settled pending (λ h y.
@@ -179,7 +179,7 @@ module _ (l : Log) (settled pending : List ℕ) where
       let above : l .committed .0 < i = ltb-true _ _ (bounds .0) in
       committed-moved g i (omega (arith, g .applied≤committed)) (leb-true _ _ (bounds .1)))
 
-  pub maybe-persist-keeps : (i t : ℕ) → GoodDecided (maybePersist l settled pending i t) settled pending
+  pub maybe-persist-keeps : (i t : ℕ) → AfterDecided Good (maybePersist l settled pending i t) settled pending
   unfolding maybePersist
   maybe-persist-keeps i t =
       decided-yes (broken l settled pending) (mayPersist l settled i t) _ settled pending (λ h y.
@@ -190,10 +190,10 @@ module _ (l : Log) (settled pending : List ℕ) where
 
 -- ---- set-up
 
-pub new-keeps : (start startterm last : ℕ) (settled pending : List ℕ) → GoodChanged (setupAnswer start startterm last settled) settled pending
+pub new-keeps : (start startterm last : ℕ) (settled pending : List ℕ) → AfterChanged Good (setupAnswer start startterm last settled) settled pending
 unfolding setupAnswer setupOk
 new-keeps start startterm last settled pending =
-    let P : Changed → Type 0 = λ a. GoodChanged a settled pending in
+    let P : Changed → Type 0 = λ a. AfterChanged Good a settled pending in
     changed-past P (λ n. tt) (not (setupOk start startterm last settled)) brokenState _ (λ h.
     changed-past P (λ n. tt) (settledZero settled (last - start)) zeroTerm _ (λ z.
     let a = split _ _ (not-false _ h) in
@@ -228,10 +228,10 @@ module _ (l : Log) (settled pending : List ℕ) where
       (omega arith) (omega arith) (omega (arith, g .last≤limit))
 
   pub stable-entries-keeps : (i t : ℕ)
-      → GoodChanged (settleAnswer l settled pending i t) (settleStore (settleAnswer l settled pending i t) l settled pending) pending
+      → AfterChanged Good (settleAnswer l settled pending i t) (settleStore (settleAnswer l settled pending i t) l settled pending) pending
   unfolding settleAnswer settleStore
   stable-entries-keeps i t =
-      let P : Changed → Type 0 = λ a. GoodChanged a (settleStore a l settled pending) pending in
+      let P : Changed → Type 0 = λ a. AfterChanged Good a (settleStore a l settled pending) pending in
       changed-past P (λ n. tt) (broken l settled pending) brokenState _ (λ h.
       changed-past P (λ n. tt) (settledOverfull l settled) noRoom _ (λ f.
       changed-past P (λ n. tt) (not (isLast l settled pending i t)) notPending _ (λ y.
@@ -279,10 +279,10 @@ length-store-if false s at run k n = length-put-run s at run k n
 
 module _ (l : Log) (settled pending : List ℕ) where
   extend-from-keeps : (run : List ℕ) (first n : ℕ) → Good l settled pending → 0 < first → first - 1 + n ≤ indexLimit
-      → GoodExtended (extendFrom l pending first n) settled (extendStore (extendFrom l pending first n) pending run)
+      → AfterExtended Good (extendFrom l pending first n) settled (extendStore (extendFrom l pending first n) pending run)
   unfolding extendFrom extendStore
   extend-from-keeps run first n g some limited =
-      let P : Extended → Type 0 = λ a. GoodExtended a settled (extendStore a pending run) in
+      let P : Extended → Type 0 = λ a. AfterExtended Good a settled (extendStore a pending run) in
       extended-past P (λ m. tt) (startsCommitted l first) cutsCommitted _ (λ a.
       extended-past P (λ m. tt) (leavesGap l first) outOfRange _ (λ b.
       extended-past P (λ m. tt) (overfull (extend.extended l first n) pending) noRoom _ (λ c.
@@ -293,10 +293,10 @@ module _ (l : Log) (settled pending : List ℕ) where
       (g .applied≤persisted) (g .persisted<offset) (leb-false _ _ d))
       refl (length-store-if (eqb (length run) 0) pending _ run _ _)))))
 
-  pub append-keeps : (run : List ℕ) → GoodExtended (extendAnswer l settled pending run) settled (extendStore (extendAnswer l settled pending run) pending run)
+  pub append-keeps : (run : List ℕ) → AfterExtended Good (extendAnswer l settled pending run) settled (extendStore (extendAnswer l settled pending run) pending run)
   unfolding extendAnswer extendStore
   append-keeps run =
-      let P : Extended → Type 0 = λ a. GoodExtended a settled (extendStore a pending run) in
+      let P : Extended → Type 0 = λ a. AfterExtended Good a settled (extendStore a pending run) in
       extended-past P (λ m. tt) (broken l settled pending) brokenState _ (λ h.
       extended-past P (λ m. tt) (badRun run) misnumberedRun _ (λ b.
       extended-past P (λ m. tt) (zeroTermIn run) zeroTerm _ (λ z.
@@ -366,10 +366,10 @@ module _ {l : Log} {settled pending : List ℕ} (g : Good l settled pending) whe
 
 module _ (l : Log) (settled pending : List ℕ) where
   pub maybe-append-keeps : (idx term commit : ℕ) (run : List ℕ)
-      → GoodAppended (appendAnswer l settled pending idx term commit run) settled (appendStore (appendAnswer l settled pending idx term commit run) pending idx run)
+      → AfterAppended Good (appendAnswer l settled pending idx term commit run) settled (appendStore (appendAnswer l settled pending idx term commit run) pending idx run)
   unfolding appendAnswer matchRun decide appendStore
   maybe-append-keeps idx term commit run =
-      let P : Appended → Type 0 = λ a. GoodAppended a settled (appendStore a pending idx run) in
+      let P : Appended → Type 0 = λ a. AfterAppended Good a settled (appendStore a pending idx run) in
       let n : ℕ = runCount run in
       let k : ℕ = firstFrom (differs l settled pending idx run) 0 (runCount run) in
       appended-past P (λ m. tt) (broken l settled pending) brokenState _ (λ b.

@@ -6,4 +6,8 @@ pub mod Receiving
 pub mod AfterCalls
 pub mod Unmoved
 pub mod Looking
+pub mod Ranges
+pub mod Slicing
 pub mod Fresh
+pub mod Nonzero
+pub mod Terms

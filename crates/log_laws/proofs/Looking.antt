@@ -1,5 +1,5 @@
 -- What the looking calls answer of a good log, said of the list of records that the state and the words stand for.
-use Prim.Native.Nat.{ℕ, zero, suc, _≤_, _<_}
+use Prim.Native.Nat.{ℕ, zero, suc, _+_, _≤_, _<_}
 use mathlib.Core.Path.{_≡_, refl, sym, ap, _∙_}
 use mathlib.Core.Bool.{Bool, true, false, not, _&&_, _||_}
 use mathlib.Core.List.{List}
@@ -19,12 +19,12 @@ use Rattle.raft_log.specs.declared.Told.the-variants as told
 use Rattle.raft_log.specs.declared.ByTerm.the-variants as byterm
 use Rattle.raft_log.specs.State.{Good, broken, agree, lastOf, termAt}
 use Rattle.raft_log.specs.Words.{pick}
-use Rattle.raft_log.specs.Look.{lookTerm, lookLast, lookLastTerm, lookCommit, lookUpToDate, lastDown, atMost, either, foundAt, byTermIn, byTerm}
+use Rattle.raft_log.specs.Look.{lookTerm, lookFirst, lookLast, lookLastTerm, lookCommit, lookUpToDate, lastDown, atMost, either, foundAt, byTermIn, byTerm}
 use Rattle.raft_log.proofs.Searching.{below-or-not}
 use Rattle.raft_log.proofs.States.{good-ok, term-below, term-start}
 use Rattle.log_laws.specs.View.{view-of}
 use Rattle.log_laws.specs.Looking.{FoundBelow}
-use Rattle.log_laws.proofs.Views.{view-last, view-term}
+use Rattle.log_laws.proofs.Views.{view-start, view-last, view-term}
 
 -- The largest number from i down that p holds of: p holds there, and of none above it.
 pick-within : (b : Bool) (i j : ℕ) → j ≤ i → pick b (suc i) j ≤ suc i
@@ -72,6 +72,10 @@ module _ (l : Log) (settled pending : List ℕ) (good : Good l settled pending) 
   unfolding lookTerm
   term-view i = rw (sound, held-term i)
 
+  pub first-index-view : lookFirst l settled pending ≡ placed.At (indexOf (view-of l settled pending .start + 1))
+  unfolding lookFirst
+  first-index-view = rw (sound, view-start l settled pending)
+
   pub last-index-view : lookLast l settled pending ≡ placed.At (indexOf (last (view-of l settled pending)))
   unfolding lookLast
   last-index-view = rw (sound, view-last l settled pending good)
@@ -85,7 +89,7 @@ module _ (l : Log) (settled pending : List ℕ) (good : Good l settled pending) 
   commit-info-view = rw (sound, held-term (l .committed .0))
 
   -- the term at 0 is 0: below the start, or at a start of (0, 0)
-  at-zero : termAt l settled pending 0 ≡ 0
+  pub at-zero : termAt l settled pending 0 ≡ 0
   at-zero =
       ⊎-elim (λ h. term-below l settled pending 0 h)
       (λ h.

@@ -19,9 +19,9 @@ use Rattle.units.specs.Refusals.{brokenState, misnumberedRun, zeroTerm, outside
 use Rattle.raft_log.specs.declared.Log.{Log}
 use Rattle.raft_log.specs.declared.Appended.{Appended}
 use Rattle.raft_log.specs.declared.Appended.the-variants.{Done, Refused}
-use Rattle.raft_log.specs.Words.{room, runCount, runTerm, firstFrom, putRun, pick}
+use Rattle.raft_log.specs.Words.{room, runCount, runTerm, firstFrom, none, putRun, pick}
 use Rattle.raft_log.specs.State.{Good, lastOf, broken, termAt}
-use Rattle.raft_log.specs.Run.{misnumbered, zeroTermIn, termsSet, zeroAt}
+use Rattle.raft_log.specs.Run.{misnumbered, zeroTermIn, termsSet}
 use Rattle.raft_log.specs.Append.{refuseIf, cuts, accepted, decide, matchRun, appendAnswer, outside, mismatched, differs, cutIf, commitUp, afterMessage, overfull, appendStore, storeIf}
 use Rattle.log_laws.specs.View.{runEntry, listed, runEntries, view-of, messageOf}
 use Rattle.raft_log.proofs.States.{split, refuted, ok-good, term-below, term-beyond}
@@ -41,7 +41,7 @@ not-not false = refl
 
 module _ (l : Log) (settled pending : List ℕ) (good : Good l settled pending) where
   -- outside the log the term is 0
-  no-term : (i : ℕ) → (i < l .start .0) ⊎ (lastOf l < i) → termAt l settled pending i ≡ 0
+  pub no-term : (i : ℕ) → (i < l .start .0) ⊎ (lastOf l < i) → termAt l settled pending i ≡ 0
   no-term i h =
       ⊎-elim
       (λ a. term-below l settled pending i a)
@@ -258,28 +258,32 @@ cut-committed : (b : Bool) (l : Log) (conflict last : ℕ) → cutIf b l conflic
 cut-committed true l conflict last = refl
 cut-committed false l conflict last = refl
 
+-- n numbers among which the search finds no 0
+pub none-zero : (f : ℕ → ℕ) (n : ℕ) → none (λ k. eqb (f k) 0) n ≡ true → (j : ℕ) → j < n → f j ≡ 0 → ⊥
+none-zero f n h j r =
+    let whole : firstFrom (λ k. eqb (f k) 0) 0 n ≡ n = eqb-true _ _ h in
+    eqb-false _ _ (found (λ k. eqb (f k) 0) 0 n .passed j (omega arith) (omega arith))
+
 -- a run whose terms pass the check
 terms-set : (run : List ℕ) → termsSet run ≡ true → (j : ℕ) → j < runCount run → runTerm run j ≡ 0 → ⊥
 unfolding termsSet
-terms-set run h j r =
-    let whole : firstFrom (zeroAt run) 0 (runCount run) ≡ runCount run = eqb-true _ _ h in
-    eqb-false _ _ (found (zeroAt run) 0 (runCount run) .passed j (omega arith) (omega arith))
+terms-set run h = none-zero (runTerm run) (runCount run) h
 
-no-done : {r : ℕ} {c m : Index} {a : Log} → Refused r ≡ Done c m a → ⊥
+pub no-done : {r : ℕ} {c m : Index} {a : Log} → Refused r ≡ Done c m a → ⊥
 no-done h =
     let z : _≡_ {A = ℕ} 0 1 = cc in
     omega arith
 
-inverted : (b : Bool) (r : ℕ) (x : Appended) {c m : Index} {a : Log} → refuseIf b r x ≡ Done c m a → (b ≡ false) × (x ≡ Done c m a)
+pub inverted : (b : Bool) (r : ℕ) (x : Appended) {c m : Index} {a : Log} → refuseIf b r x ≡ Done c m a → (b ≡ false) × (x ≡ Done c m a)
 inverted true r x h = absurd (no-done h)
 inverted false r x h = (refl, h)
 
 -- a refusal by s is none by r
-declined : (b : Bool) (r s : ℕ) (x : Appended) → (r ≡ s → ⊥) → refuseIf b r x ≡ Refused s → (b ≡ false) × (x ≡ Refused s)
+pub declined : (b : Bool) (r s : ℕ) (x : Appended) → (r ≡ s → ⊥) → refuseIf b r x ≡ Refused s → (b ≡ false) × (x ≡ Refused s)
 declined true r s x other h = absurd (other (cc))
 declined false r s x other h = (refl, h)
 
-neither : (a b : Bool) → not (a || b) ≡ true → (a ≡ false) × (b ≡ false)
+pub neither : (a b : Bool) → not (a || b) ≡ true → (a ≡ false) × (b ≡ false)
 neither true b h = absurd (false≢true h)
 neither false true h = absurd (false≢true h)
 neither false false h = (refl, refl)

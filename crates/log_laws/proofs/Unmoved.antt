@@ -9,55 +9,55 @@ use Rattle.raft_log.specs.declared.Log.{Log}
 use Rattle.raft_log.specs.declared.Changed.{Changed}
 use Rattle.raft_log.specs.declared.Changed.the-variants as changed
 use Rattle.raft_log.specs.declared.Decided.{Decided}
-use Rattle.raft_log.specs.declared.Decided.the-variants as decided
 use Rattle.raft_log.specs.State.{lastOf, broken}
 use Rattle.raft_log.specs.Append.{withCommitted}
 use Rattle.raft_log.specs.Commit.{withApplied, withPersisted, refuseIf, changedIf, decideUnless, yesIf, mayCommit, mayPersist, commitTo, appliedTo, maybeCommit, maybePersist}
 use Rattle.log_laws.specs.View.{view-of}
-
--- The log that an answer carries stands for the records of l.
-abbrev Unmoved : Log → List ℕ → List ℕ → Changed → Type 0
-Unmoved l settled pending (changed.Now a) = view-of a settled pending ≡ view-of l settled pending
-Unmoved l settled pending (changed.Refused number) = Unit {0}
-
-abbrev UnmovedBy : Log → List ℕ → List ℕ → Decided → Type 0
-UnmovedBy l settled pending (decided.Yes a) = view-of a settled pending ≡ view-of l settled pending
-UnmovedBy l settled pending decided.No = Unit {0}
-UnmovedBy l settled pending (decided.Refused number) = Unit {0}
+use Rattle.log_laws.specs.Keep.{AfterChanged, AfterDecided}
 
 module _ (l : Log) (settled pending : List ℕ) where
-  unless : (b : Bool) (number : ℕ) (x : Changed) → Unmoved l settled pending x → Unmoved l settled pending (refuseIf b number x)
+  -- A log over its stores stands for the records of l.
+  abbrev pub SameView : Log → List ℕ → List ℕ → Type 0
+  SameView a settled′ pending′ = view-of a settled′ pending′ ≡ view-of l settled pending
+
+  abbrev Unmoved : Changed → Type 0
+  Unmoved x = AfterChanged SameView x settled pending
+
+  abbrev UnmovedBy : Decided → Type 0
+  UnmovedBy x = AfterDecided SameView x settled pending
+
+  unless : (b : Bool) (number : ℕ) (x : Changed) → Unmoved x → Unmoved (refuseIf b number x)
   unless true number x u = tt
   unless false number x u = u
 
-  either-way : (b : Bool) (x y : Changed) → Unmoved l settled pending x → Unmoved l settled pending y → Unmoved l settled pending (changedIf b x y)
+  either-way : (b : Bool) (x y : Changed) → Unmoved x → Unmoved y → Unmoved (changedIf b x y)
   either-way true x y u w = u
   either-way false x y u w = w
 
-  decided-unless : (b : Bool) (x : Decided) → UnmovedBy l settled pending x → UnmovedBy l settled pending (decideUnless b x)
+  decided-unless : (b : Bool) (x : Decided) → UnmovedBy x → UnmovedBy (decideUnless b x)
   decided-unless true x u = tt
   decided-unless false x u = u
 
-  on-yes : (b : Bool) (a : Log) → view-of a settled pending ≡ view-of l settled pending → UnmovedBy l settled pending (yesIf b a)
+  on-yes : (b : Bool) (a : Log) → view-of a settled pending ≡ view-of l settled pending → UnmovedBy (yesIf b a)
   on-yes true a e = e
   on-yes false a e = tt
 
   -- THE LAWS, one a call.
-  pub commit-to-view : (i : ℕ) → Unmoved l settled pending (commitTo l settled pending i)
+  pub commit-to-view : (i : ℕ) → Unmoved (commitTo l settled pending i)
   unfolding commitTo view-of
   commit-to-view i =
       unless (broken l settled pending) brokenState _ (either-way (leb i (l .committed .0)) (changed.Now l) _ refl (unless (ltb (lastOf l) i) outOfRange (changed.Now (withCommitted l i)) refl))
 
-  pub applied-to-view : (i : ℕ) → Unmoved l settled pending (appliedTo l settled pending i)
+  pub applied-to-view : (i : ℕ) → Unmoved (appliedTo l settled pending i)
   unfolding appliedTo view-of
   applied-to-view i =
       unless (broken l settled pending) brokenState _
       (either-way (eqb i 0) (changed.Now l) _ refl (unless (ltb (min (l .committed .0) (l .persisted .0)) i || ltb i (l .applied .0)) outOfRange (changed.Now (withApplied l i)) refl))
 
-  pub maybe-commit-view : (i t : ℕ) → UnmovedBy l settled pending (maybeCommit l settled pending i t)
+  pub maybe-commit-view : (i t : ℕ) → UnmovedBy (maybeCommit l settled pending i t)
   unfolding maybeCommit view-of
   maybe-commit-view i t = decided-unless (broken l settled pending) _ (on-yes (mayCommit l settled pending i t) (withCommitted l i) refl)
 
-  pub maybe-persist-view : (i t : ℕ) → UnmovedBy l settled pending (maybePersist l settled pending i t)
+  pub maybe-persist-view : (i t : ℕ) → UnmovedBy (maybePersist l settled pending i t)
   unfolding maybePersist view-of
   maybe-persist-view i t = decided-unless (broken l settled pending) _ (on-yes (mayPersist l settled i t) (withPersisted l i) refl)

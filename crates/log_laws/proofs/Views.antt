@@ -7,7 +7,7 @@ use native.Mathlib.Omega.{arith}
 use borrow.Author.Tests.{lt-ltb, le-ltb}
 use lib.ListN.{length, getD, set, take, drop, length-append, length-set, List·getD-append, List·getD-eq-default}
 use lib.Seq.{getD-append-add, sets, length-sets, getD-set-same, getD-set-other, getD-take, getD-drop, paste, length-take-le, length-paste-head}
-use Rattle.rules.specs.Log.{Entry, nothing, last, entry-at, term-of}
+use Rattle.rules.specs.Log.{Entry, nothing, Log as Abstract, last, entry-at, term-of}
 use Rattle.raft_log.specs.declared.Log.{Log}
 use Rattle.raft_log.specs.Words.{recordWords, room, putRecord, putRun, recordOf}
 use Rattle.raft_log.specs.State.{Good, lastOf, termAt}
@@ -80,6 +80,17 @@ append-listed f k (suc m) n =
 
 -- ---- the view
 
+-- after its start, a log's record at i is the one that stands there in its list
+pub entry-after : (log : Abstract) (i : ℕ) → log .start < i → entry-at log i ≡ getD (log .entries) (i - log .start - 1) nothing
+unfolding entry-at
+entry-after log i h =
+    let e : i - log .start ≡ suc (i - log .start - 1) = omega arith in
+    simp (le-ltb i (log .start) (omega arith)) (ap (λ (j : ℕ). getD (record { term = log .start-term; body = 0 } ∷ log .entries) j nothing) e)
+
+pub view-start : (l : Log) (settled pending : List ℕ) → view-of l settled pending .start ≡ l .start .0
+unfolding view-of
+view-start l settled pending = refl
+
 module _ (l : Log) (settled pending : List ℕ) (good : Good l settled pending) where
   abbrev start : Entry
   start = record { term = l .startterm .0; body = 0 }
@@ -120,10 +131,8 @@ module _ (l : Log) (settled pending : List ℕ) (good : Good l settled pending) 
         simp (le-ltb i (l .start .0) (omega arith), e)
 
     after-start : l .start .0 < i → entry-at (view-of l settled pending) i ≡ getD (front ++ back) (i - l .start .0 - 1) nothing
-    unfolding view-of entry-at
-    after-start h =
-        let e : i - l .start .0 ≡ suc (i - l .start .0 - 1) = omega arith in
-        simp (le-ltb i (l .start .0) (omega arith)) (ap (λ (j : ℕ). getD (start ∷ front ++ back) j nothing) e)
+    unfolding view-of
+    after-start h = entry-after (view-of l settled pending) i h
 
     pub entry-settled : l .start .0 < i → i < l .offset .0 → entry-at (view-of l settled pending) i ≡ storeEntry settled (i - l .start .0 - 1)
     entry-settled h k =

@@ -3,3 +3,4 @@ pub mod Cases
 pub mod Keep
 pub mod View
 pub mod Looking
+pub mod Slicing

@@ -9,7 +9,6 @@ pub mod Looks
 pub mod Commits
 pub mod Downwards
 pub mod Slices
-pub mod Parts
 pub mod Copying
 pub mod Settling
 pub mod Setups

@@ -1,0 +1,2 @@
+pub mod Leader
+pub mod Rule

@@ -1,0 +1,175 @@
+-- Each call keeps nonzero terms: what it takes passed refusal 3's test, and its other records were there before. And where the term is 0.
+use Prim.Native.Nat.{ℕ, _-_, _<_}
+use mathlib.Core.Path.{_≡_, refl, sym, ap, subst, _∙_}
+use mathlib.Core.Bool.{Bool, true, false, not, false≢true}
+use mathlib.Core.Logic.{_⊎_, ⊎-elim, inl, inr}
+use mathlib.Core.List.{List}
+use native.Mathlib.Omega.{arith}
+use borrow.Author.Tests.{eq-eqb, eqb-true, not-false}
+use lib.Dec.{eqb}
+use lib.ListN.{length, take}
+use Rattle.units.specs.Refusals.{brokenState, misnumberedRun, zeroTerm}
+use Rattle.rules.specs.Log.{Entry, Log as Abstract, last, term-of}
+use Rattle.raft_log.specs.declared.Log.{Log}
+use Rattle.raft_log.specs.declared.Changed.{Changed}
+use Rattle.raft_log.specs.declared.Changed.the-variants as changed
+use Rattle.raft_log.specs.declared.Decided.{Decided}
+use Rattle.raft_log.specs.declared.Decided.the-variants as decided
+use Rattle.raft_log.specs.declared.Extended.{Extended}
+use Rattle.raft_log.specs.declared.Extended.the-variants as extended
+use Rattle.raft_log.specs.declared.Appended.{Appended}
+use Rattle.raft_log.specs.declared.Appended.the-variants as appended
+use Rattle.raft_log.specs.Words.{runCount, none}
+use Rattle.raft_log.specs.State.{Good, agree, broken, termAt}
+use Rattle.raft_log.specs.Run.{misnumbered, zeroTermIn, termsSet}
+use Rattle.raft_log.specs.Append.{appendAnswer, appendStore}
+use Rattle.raft_log.specs.Extend.{firstOf, badRun, extendAnswer, extendStore}
+use Rattle.raft_log.specs.Commit.{commitTo, appliedTo, maybeCommit, maybePersist}
+use Rattle.raft_log.specs.Settle.{settleAnswer, settleStore}
+use Rattle.raft_log.specs.Setup.{setupOk, settledZero, setupAnswer}
+use Rattle.raft_log.proofs.Searching.{below-or-not}
+use Rattle.log_laws.specs.View.{storeEntry, runEntry, listed, runEntries, view-of, messageOf}
+use Rattle.log_laws.specs.Keep.{AfterChanged, AfterDecided, AfterExtended, AfterAppended, NonzeroTerms, TermsSet}
+use Rattle.log_laws.proofs.Keep.{changed-past}
+use Rattle.log_laws.proofs.Views.{entry-start, view-last, view-term}
+use Rattle.log_laws.proofs.Looking.{at-zero}
+use Rattle.log_laws.proofs.Unmoved.{SameView, commit-to-view, applied-to-view, maybe-commit-view, maybe-persist-view}
+use Rattle.log_laws.proofs.Fresh.{fresh-view}
+use Rattle.log_laws.proofs.AfterCalls.{Extends, settled-view, extended-view}
+use Rattle.log_laws.proofs.AfterCalls as after
+use Rattle.log_laws.proofs.Receiving.{no-term, none-zero, taken}
+use Rattle.log_laws.proofs.Receiving as receiving
+use Rattle.log_laws.proofs.Nonzero.{AllSet, set-append, set-take, set-listed, nonzero-set, set-nonzero, AfterSteps, receiver-nonzero}
+
+-- ---- what refusal 3 lets through: n records among which its search finds no term 0, and a run
+
+searched-set : (f : ℕ → Entry) (n : ℕ) → none (λ k. eqb (f k .term) 0) n ≡ true → AllSet (listed f 0 n)
+searched-set f n h =
+    set-listed f 0 n (λ i b.
+    let nonzero : f i .term ≡ 0 → ⊥ = none-zero (λ k. f k .term) n h i (omega arith) in
+    omega arith)
+
+run-set : (run : List ℕ) → zeroTermIn run ≡ false → AllSet (runEntries run)
+unfolding termsSet
+run-set run h = searched-set (runEntry run) (runCount run) (not-false _ h)
+
+-- ---- the calls that move one number
+
+module _ (l : Log) (settled pending : List ℕ) (set : TermsSet l settled pending) where
+  unmoved : (x : Changed) → AfterChanged (SameView l settled pending) x settled pending → AfterChanged TermsSet x settled pending
+  unmoved (changed.Now a) e = subst NonzeroTerms (sym e) set
+  unmoved (changed.Refused number) e = tt
+
+  unmoved-by : (x : Decided) → AfterDecided (SameView l settled pending) x settled pending → AfterDecided TermsSet x settled pending
+  unmoved-by (decided.Yes a) e = subst NonzeroTerms (sym e) set
+  unmoved-by decided.No e = tt
+  unmoved-by (decided.Refused number) e = tt
+
+  pub commit-to-terms : (i : ℕ) → AfterChanged TermsSet (commitTo l settled pending i) settled pending
+  commit-to-terms i = unmoved (commitTo l settled pending i) (commit-to-view l settled pending i)
+
+  pub applied-to-terms : (i : ℕ) → AfterChanged TermsSet (appliedTo l settled pending i) settled pending
+  applied-to-terms i = unmoved (appliedTo l settled pending i) (applied-to-view l settled pending i)
+
+  pub maybe-commit-terms : (i t : ℕ) → AfterDecided TermsSet (maybeCommit l settled pending i t) settled pending
+  maybe-commit-terms i t = unmoved-by (maybeCommit l settled pending i t) (maybe-commit-view l settled pending i t)
+
+  pub maybe-persist-terms : (i t : ℕ) → AfterDecided TermsSet (maybePersist l settled pending i t) settled pending
+  maybe-persist-terms i t = unmoved-by (maybePersist l settled pending i t) (maybe-persist-view l settled pending i t)
+
+-- ---- set-up
+
+pub new-terms : (start startterm last : ℕ) (settled pending : List ℕ) → AfterChanged TermsSet (setupAnswer start startterm last settled) settled pending
+unfolding setupAnswer
+new-terms start startterm last settled pending =
+    let P : Changed → Type 0 = λ a. AfterChanged TermsSet a settled pending in
+    changed-past P (λ n. tt) (not (setupOk start startterm last settled)) brokenState _ (λ h.
+    changed-past P (λ n. tt) (settledZero settled (last - start)) zeroTerm _ (λ z.
+    subst NonzeroTerms (sym (fresh-view start startterm last settled pending)) (set-nonzero _ (searched-set (storeEntry settled) (last - start) (not-false _ z)))))
+
+module _ (l : Log) (settled pending : List ℕ) (set : TermsSet l settled pending) where
+  -- ---- `stable_entries`
+
+  pub stable-entries-terms : (i t : ℕ)
+      → AfterChanged TermsSet (settleAnswer l settled pending i t) (settleStore (settleAnswer l settled pending i t) l settled pending) pending
+  stable-entries-terms i t = go (settleAnswer l settled pending i t) refl
+    where
+      go : (x : Changed) → settleAnswer l settled pending i t ≡ x → AfterChanged TermsSet x (settleStore x l settled pending) pending
+      go (changed.Now a) e = subst NonzeroTerms (sym (settled-view l settled pending i t a e)) set
+      go (changed.Refused number) e = tt
+
+  -- ---- `append`
+
+  -- the records before the run's first index, then the run's
+  extends-terms : (run : List ℕ) → zeroTermIn run ≡ false → (b : Bool) (a : Log) (store : List ℕ) → Extends l settled pending run b a store → TermsSet a settled store
+  extends-terms run z true a store e = subst NonzeroTerms (sym e) set
+  extends-terms run z false a store e =
+      let before : ℕ = firstOf run - l .start .0 - 1 in
+      let held : List Entry = view-of l settled pending .entries in
+      subst NonzeroTerms (sym e) (set-nonzero _ (set-append (take before held) (runEntries run) (set-take before held (nonzero-set _ set)) (run-set run z)))
+
+  pub append-terms : (run : List ℕ) → AfterExtended TermsSet (extendAnswer l settled pending run) settled (extendStore (extendAnswer l settled pending run) pending run)
+  unfolding extendAnswer
+  append-terms run = go (extendAnswer l settled pending run) refl
+    where
+      go : (x : Extended) → extendAnswer l settled pending run ≡ x → AfterExtended TermsSet x settled (extendStore x pending run)
+      go (extended.Last i a) e =
+          let b1 = after.inverted (broken l settled pending) brokenState _ e in
+          let b2 = after.inverted (badRun run) misnumberedRun _ (b1 .1) in
+          let b3 = after.inverted (zeroTermIn run) zeroTerm _ (b2 .1) in
+          extends-terms run (b3 .0) (eqb (length run) 0) a _ (extended-view l settled pending run i a e)
+      go (extended.Refused number) e = tt
+
+  -- ---- `maybe_append`
+
+  pub maybe-append-terms : (idx term commit : ℕ) (run : List ℕ)
+      → AfterAppended TermsSet (appendAnswer l settled pending idx term commit run) settled (appendStore (appendAnswer l settled pending idx term commit run) pending idx run)
+  unfolding appendAnswer
+  maybe-append-terms idx term commit run = go (appendAnswer l settled pending idx term commit run) refl
+    where
+      go : (x : Appended) → appendAnswer l settled pending idx term commit run ≡ x → AfterAppended TermsSet x settled (appendStore x pending idx run)
+      go (appended.Done c m a) e =
+          let b1 = receiving.inverted (broken l settled pending) brokenState _ e in
+          let b2 = receiving.inverted (misnumbered run idx) misnumberedRun _ (b1 .1) in
+          let b3 = receiving.inverted (zeroTermIn run) zeroTerm _ (b2 .1) in
+          subst AfterSteps (taken l settled pending idx term commit run c m a e .steps)
+          (receiver-nonzero _ (l .committed .0) (messageOf idx term commit run) set (run-set run (b3 .0)))
+      go (appended.Refused number) e = tt
+
+-- ---- where the term is 0
+
+agree-second : (a b : Bool) → agree a b ≡ true → b ≡ true → a ≡ true
+agree-second true b h e = refl
+agree-second false b h e = absurd (false≢true (sym (ap not e) ∙ h))
+
+module _ (l : Log) (settled pending : List ℕ) (good : Good l settled pending) where
+  abbrev v : Abstract
+  v = view-of l settled pending
+
+  start-zero : l .startterm .0 ≡ 0 → l .start .0 ≡ 0
+  start-zero h = eqb-true _ _ (agree-second (eqb (l .start .0) 0) _ (good .starts) (eq-eqb _ _ h))
+
+  -- THE TERM IS 0 only at index 0 and outside the log ..
+  pub zero-outside : TermsSet l settled pending → (i : ℕ) → term-of v i ≡ 0 → (i ≡ 0) ⊎ ((i < v .start) ⊎ (last v < i))
+  unfolding view-of
+  zero-outside set i h =
+      ⊎-elim (λ below. inr (inl below))
+      (λ from.
+      ⊎-elim (λ beyond. inr (inr beyond))
+      (λ within.
+      ⊎-elim (λ behind. let some : 0 < term-of v i = set i behind within in absurd (omega arith))
+      (λ upto.
+      let at : i ≡ l .start .0 = omega arith in
+      inl (at ∙ start-zero (sym (ap (λ (e : Entry). e .term) (entry-start l settled pending good i at)) ∙ h)))
+      (below-or-not (l .start .0) i))
+      (below-or-not (last v) i))
+      (below-or-not i (l .start .0))
+
+  -- .. and always there.
+  pub outside-zero : (i : ℕ) → (i ≡ 0) ⊎ ((i < v .start) ⊎ (last v < i)) → term-of v i ≡ 0
+  unfolding view-of
+  outside-zero i w =
+      view-term l settled pending good i
+      ∙ ⊎-elim (λ at. ap (termAt l settled pending) at ∙ at-zero l settled pending good)
+      (λ outside. no-term l settled pending good i (⊎-elim (λ below. inl below) (λ beyond. inr (omega (arith, view-last l settled pending good))) outside))
+      w
