@@ -11,3 +11,4 @@ pub mod Slicing
 pub mod Fresh
 pub mod Nonzero
 pub mod Terms
+pub mod Frames

@@ -4,3 +4,4 @@ pub mod Keep
 pub mod View
 pub mod Looking
 pub mod Slicing
+pub mod Frame
