@@ -11,7 +11,7 @@ use lib.Dec.{ltb, eqb, leb}
 use lib.ListN.{length, getD, take, drop, drop-of-length-le}
 use lib.Seq.{length-take-le, take-all}
 use Rattle.rules.specs.Log.{Entry, nothing, Log as Abstract, last}
-use Rattle.rules.specs.Receiver.{Answer, reply-false, success, contains, step-2, conflicts, with-entries, step-3, step-4, step-5, commit-if, receiver}
+use Rattle.rules.specs.Receiver.{Answer, reply-false, success, contains, step-2, conflicts, with-entries, step-3, step-4, step-5, receiver}
 use Rattle.rules.proofs.Receiver.{conflict-at, step-3-keeps, step-3-deletes}
 use Rattle.units.specs.Units.{indexOf}
 use Rattle.units.specs.declared.Index.{Index}
@@ -241,16 +241,9 @@ module _ (l : Log) (settled pending : List ℕ) (good : Good l settled pending) 
 -- ---- step 5
 
 -- committed is the larger of itself and what step 5 says
-raised : (c m x : ℕ) → max c (min m x) ≡ max c (step-5 c m x)
+pub raised : (c m x : ℕ) → max c (step-5 c m x) ≡ max c (min m x)
 unfolding step-5
-raised c m x =
-    ⊎-elim
-    (λ h. ap (λ (b : Bool). max c (commit-if b (min m x) c)) (sym (lt-ltb c m h)))
-    (λ h. same c (min m x) (omega arith) ∙ ap (λ (b : Bool). max c (commit-if b (min m x) c)) (sym (le-ltb c m h)))
-    (below-or-not c m)
-  where
-    same : (a b : ℕ) → b ≤ a → max a b ≡ max a a
-    same a b h = omega arith
+raised c m x = ⊎-elim (λ h. simp (lt-ltb c m h)) (λ h. simp (le-ltb c m h) (omega arith)) (below-or-not c m)
 
 -- ---- the theorem
 
@@ -326,7 +319,7 @@ module _ (l : Log) (settled pending : List ℕ) (idx term commit : ℕ) (run : L
         committed =
             ap (λ (x : Index). max (x .0) (min commit (idx + count))) (cut-committed (ltb alike count) l (idx + 1 + alike) (idx + count))
             ∙ ap (λ (x : ℕ). max (l .committed .0) (min commit x)) long
-            ∙ raised (l .committed .0) commit (idx + length (runEntries run));
+            ∙ sym (raised (l .committed .0) commit (idx + length (runEntries run)));
       }
 
   -- THE THEOREM, where the message is taken: the steps of the paper, in order.

@@ -1,0 +1,2 @@
+pub mod Main
+pub mod Example

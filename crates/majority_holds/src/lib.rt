@@ -1,0 +1,1 @@
+// Theorems only (specs/ and proofs/): what the leader counts, a majority holds, with no code.

@@ -1,0 +1,12 @@
+pub mod Received
+pub mod Agreeing
+pub mod Cuts
+pub mod Tests
+pub mod Carried
+pub mod Taking
+pub mod Quiet
+pub mod Main
+pub mod World
+pub mod CatchUp
+pub mod Sanity
+pub mod Wrong

@@ -1,0 +1,86 @@
+-- What the follower does between messages leaves its records and committed as they were: so what stands between the two ends stands, and nothing is lost.
+use Prim.Native.Nat.{ℕ, min}
+use mathlib.Core.Path.{_≡_, refl, sym, ap, subst}
+use mathlib.Core.Bool.{Bool, true, false, _||_}
+use mathlib.Core.List.{List}
+use native.Mathlib.Omega.{arith}
+use lib.Dec.{eqb, ltb}
+use Rattle.units.specs.Refusals.{brokenState, outOfRange}
+use Rattle.units.specs.declared.Index.{Index}
+use Rattle.rules.specs.Log.{Entry, nothing, Log as Abstract, entry-at, Matching, Agree}
+use Rattle.raft_log.specs.declared.Log.{Log}
+use Rattle.raft_log.specs.declared.Changed.{Changed}
+use Rattle.raft_log.specs.declared.Changed.the-variants as changed
+use Rattle.raft_log.specs.State.{broken}
+use Rattle.raft_log.specs.Commit.{refuseIf, changedIf, withApplied, withPersisted, decideUnless, yesIf, mayPersist, appliedTo, maybePersist}
+use Rattle.raft_log.specs.Settle.{settleAnswer, settleStore}
+use Rattle.raft_log.proofs.Settling.{settle-log}
+use Rattle.log_laws.specs.View.{view-of}
+use Rattle.log_laws.specs.Keep.{AfterChanged, AfterDecided}
+use Rattle.log_laws.proofs.AfterCalls.{settled-view}
+use Rattle.two_ends.specs.Follower.{Follower, held, committed, Between, settles, persists, applies, reads, does}
+use Rattle.two_ends.specs.Leader.{whole-list}
+use Rattle.two_ends.specs.TwoEnds.{Keeps}
+use Rattle.two_ends.proofs.Carried.{Sound, changed-carries, decided-carries, settled-carries}
+use Rattle.two_ends.proofs.Taking.{Standing}
+
+-- A follower with the same records and the same committed.
+module _ (xs : List Entry) (f g : Follower) (same : held g ≡ held f) (level : committed g ≡ committed f) where
+  pub quiet-standing : Standing xs f → Sound g → Standing xs g
+  quiet-standing st sound = record {
+    sound = sound;
+    matching = subst (λ (l : Abstract). Matching l (whole-list xs)) (sym same) (st .matching);
+    has-committed = subst (Agree (held g) (whole-list xs)) (sym level) (subst (λ (l : Abstract). Agree l (whole-list xs) (committed f)) (sym same) (st .has-committed));
+  }
+
+  pub quiet-keeps : Keeps xs f g
+  quiet-keeps = record {
+    rises = omega (arith, level);
+    kept = λ i s h. ap (λ (l : Abstract). entry-at l i) same;
+    keeps = λ k e. subst (λ (l : Abstract). Agree l (whole-list xs) k) (sym same) e;
+    same-start = (ap (λ (l : Abstract). l .start) same, ap (λ (l : Abstract). l .start-term) same);
+  }
+
+-- A log over its stores has the records of l, and its committed.
+abbrev Alike : Log → List ℕ → List ℕ → Log → List ℕ → List ℕ → Type 0
+Alike l settled pending a settled′ pending′ = (view-of a settled′ pending′ ≡ view-of l settled pending) × (a .committed ≡ l .committed)
+
+module _ (l : Log) (settled pending : List ℕ) where
+  persisted-alike : (i t : ℕ) → AfterDecided (Alike l settled pending) (maybePersist l settled pending i t) settled pending
+  unfolding maybePersist view-of
+  persisted-alike i t = by-tests (broken l settled pending) (mayPersist l settled i t)
+    where
+      by-tests : (b c : Bool) → AfterDecided (Alike l settled pending) (decideUnless b (yesIf c (withPersisted l i))) settled pending
+      by-tests true c = tt
+      by-tests false true = (refl, refl)
+      by-tests false false = tt
+
+  applied-alike : (i : ℕ) → AfterChanged (Alike l settled pending) (appliedTo l settled pending i) settled pending
+  unfolding appliedTo view-of
+  applied-alike i = by-tests (broken l settled pending) (eqb i 0) (ltb (min (l .committed .0) (l .persisted .0)) i || ltb i (l .applied .0))
+    where
+      by-tests : (a b c : Bool) → AfterChanged (Alike l settled pending) (refuseIf a brokenState (changedIf b (changed.Now l) (refuseIf c outOfRange (changed.Now (withApplied l i))))) settled pending
+      by-tests true b c = tt
+      by-tests false true c = (refl, refl)
+      by-tests false false true = tt
+      by-tests false false false = (refl, refl)
+
+  settled-alike : (i t : ℕ) → AfterChanged (Alike l settled pending) (settleAnswer l settled pending i t) (settleStore (settleAnswer l settled pending i t) l settled pending) pending
+  settled-alike i t = by-answer (settleAnswer l settled pending i t) refl
+    where
+      by-answer : (a : Changed) → settleAnswer l settled pending i t ≡ a → AfterChanged (Alike l settled pending) a (settleStore a l settled pending) pending
+      by-answer (changed.Now after) e = (settled-view l settled pending i t after e, ap (λ (a : Log). a .committed) (sym (settle-log l settled pending i t e)))
+      by-answer (changed.Refused n) e = tt
+
+pub between-alike : (f : Follower) (b : Between) → (held (does f b) ≡ held f) × (committed (does f b) ≡ committed f)
+unfolding does
+between-alike f (settles i t) =
+    let r = settled-carries (Alike (f .log) (f .settled) (f .pending)) (f .log) (f .settled) (f .pending) (refl, refl) (settleAnswer (f .log) (f .settled) (f .pending) i t) (settled-alike (f .log) (f .settled) (f .pending) i t) in
+    (r .0, ap (λ (x : Index). x .0) (r .1))
+between-alike f (persists i t) =
+    let r = decided-carries (Alike (f .log) (f .settled) (f .pending)) (f .log) (f .settled) (f .pending) (refl, refl) (maybePersist (f .log) (f .settled) (f .pending) i t) (persisted-alike (f .log) (f .settled) (f .pending) i t) in
+    (r .0, ap (λ (x : Index). x .0) (r .1))
+between-alike f (applies i) =
+    let r = changed-carries (Alike (f .log) (f .settled) (f .pending)) (f .log) (f .settled) (f .pending) (refl, refl) (appliedTo (f .log) (f .settled) (f .pending) i) (applied-alike (f .log) (f .settled) (f .pending) i) in
+    (r .0, ap (λ (x : Index). x .0) (r .1))
+between-alike f reads = (refl, refl)

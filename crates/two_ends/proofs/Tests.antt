@@ -1,0 +1,101 @@
+-- The table of `maybe_append`, read backwards: which tests an answer says were passed.
+use Prim.Native.Nat.{ℕ}
+use mathlib.Core.Path.{_≡_, refl, sym, ap}
+use mathlib.Core.Bool.{Bool, true, false}
+use mathlib.Core.Logic.{_⊎_, inl, inr}
+use native.Mathlib.Omega.{arith}
+use Rattle.units.specs.Refusals.{brokenState, misnumberedRun, zeroTerm, outsideLog, mismatch, cutsCommitted, noRoom}
+use Rattle.units.specs.declared.Index.{Index}
+use Rattle.raft_log.specs.declared.Log.{Log}
+use Rattle.raft_log.specs.declared.Appended.{Appended}
+use Rattle.raft_log.specs.declared.Appended.the-variants.{Done, Refused}
+use Rattle.raft_log.specs.Words.{runCount}
+use Rattle.raft_log.specs.State.{broken}
+use Rattle.raft_log.specs.Run.{misnumbered, zeroTermIn}
+use Rattle.raft_log.specs.Append.{afterMessage, outside, mismatched, cuts, overfull, refuseIf, accepted, decide, matchRun, appendAnswer, appendStore}
+use Rattle.log_laws.proofs.Receiving.{no-done, inverted, declined}
+use Rattle.two_ends.specs.Follower.{Follower, Message, WellFormed, answer-to, outcome-of, engine, alike, HasRoom}
+
+module _ (f : Follower) (m : Message) where
+  abbrev n : ℕ
+  n = runCount (m .run)
+
+  abbrev after : Log
+  after = afterMessage (f .log) (m .idx) n (alike f m) (m .commit)
+
+  -- No test of the table holds.
+  pub record Passed : Type 0 where
+    pub whole : broken (f .log) (f .settled) (f .pending) ≡ false
+    pub formed : WellFormed m
+    pub inside : outside (f .log) (m .idx) (m .term) ≡ false
+    pub matches : mismatched (f .log) (f .settled) (f .pending) (m .idx) (m .term) ≡ false
+    pub spares : cuts (f .log) (m .idx) n (alike f m) ≡ false
+    pub room : HasRoom f m
+
+  pub done-passed : (c k : Index) (a : Log) → answer-to f m ≡ Done c k a → Passed × (accepted (m .idx) n (alike f m) after ≡ Done c k a)
+  unfolding appendAnswer matchRun decide
+  done-passed c k a e =
+      let t1 = inverted (broken (f .log) (f .settled) (f .pending)) brokenState _ e in
+      let t2 = inverted (misnumbered (m .run) (m .idx)) misnumberedRun _ (t1 .1) in
+      let t3 = inverted (zeroTermIn (m .run)) zeroTerm _ (t2 .1) in
+      let t4 = inverted (outside (f .log) (m .idx) (m .term)) outsideLog _ (t3 .1) in
+      let t5 = inverted (mismatched (f .log) (f .settled) (f .pending) (m .idx) (m .term)) mismatch _ (t4 .1) in
+      let t6 = inverted (cuts (f .log) (m .idx) n (alike f m)) cutsCommitted _ (t5 .1) in
+      let t7 = inverted (overfull after (f .pending)) noRoom _ (t6 .1) in
+      (record { whole = t1 .0; formed = (t2 .0, t3 .0); inside = t4 .0; matches = t5 .0; spares = t6 .0; room = t7 .0 }, t7 .1)
+
+  pub passed-done : Passed → answer-to f m ≡ accepted (m .idx) n (alike f m) after
+  unfolding appendAnswer matchRun decide
+  passed-done p = simp (p .whole, p .formed .0, p .formed .1, p .inside, p .matches, p .spares, p .room)
+
+  -- 6 is given only where 4 and 5 are not, and the conflict is at or below committed; 1 only where a state rule is broken
+  pub six-cuts : answer-to f m ≡ Refused cutsCommitted
+      → (outside (f .log) (m .idx) (m .term) ≡ false) × (mismatched (f .log) (f .settled) (f .pending) (m .idx) (m .term) ≡ false) × (cuts (f .log) (m .idx) n (alike f m) ≡ true)
+  unfolding appendAnswer matchRun decide
+  six-cuts e =
+      let t1 = declined (broken (f .log) (f .settled) (f .pending)) brokenState cutsCommitted _ (λ q. omega arith) e in
+      let t2 = declined (misnumbered (m .run) (m .idx)) misnumberedRun cutsCommitted _ (λ q. omega arith) (t1 .1) in
+      let t3 = declined (zeroTermIn (m .run)) zeroTerm cutsCommitted _ (λ q. omega arith) (t2 .1) in
+      let t4 = declined (outside (f .log) (m .idx) (m .term)) outsideLog cutsCommitted _ (λ q. omega arith) (t3 .1) in
+      let t5 = declined (mismatched (f .log) (f .settled) (f .pending) (m .idx) (m .term)) mismatch cutsCommitted _ (λ q. omega arith) (t4 .1) in
+      (t4 .0, t5 .0, by-test (cuts (f .log) (m .idx) n (alike f m)) (t5 .1))
+    where
+      by-test : (b : Bool) → refuseIf b cutsCommitted (refuseIf (overfull after (f .pending)) noRoom (accepted (m .idx) n (alike f m) after)) ≡ Refused cutsCommitted → b ≡ true
+      by-test true h = refl
+      by-test false h = absurd (no-done (sym (declined (overfull after (f .pending)) noRoom cutsCommitted _ (λ q. omega arith) h .1)))
+
+  pub one-broken : answer-to f m ≡ Refused brokenState → broken (f .log) (f .settled) (f .pending) ≡ true
+  unfolding appendAnswer matchRun decide
+  one-broken e = by-test (broken (f .log) (f .settled) (f .pending)) e
+    where
+      rest : refuseIf (misnumbered (m .run) (m .idx)) misnumberedRun (refuseIf (zeroTermIn (m .run)) zeroTerm (matchRun (f .log) (f .settled) (f .pending) (m .idx) (m .term) (m .commit) (m .run) n)) ≡ Refused brokenState → ⊥
+      rest h =
+          let t2 = declined (misnumbered (m .run) (m .idx)) misnumberedRun brokenState _ (λ q. omega arith) h in
+          let t3 = declined (zeroTermIn (m .run)) zeroTerm brokenState _ (λ q. omega arith) (t2 .1) in
+          let t4 = declined (outside (f .log) (m .idx) (m .term)) outsideLog brokenState _ (λ q. omega arith) (t3 .1) in
+          let t5 = declined (mismatched (f .log) (f .settled) (f .pending) (m .idx) (m .term)) mismatch brokenState _ (λ q. omega arith) (t4 .1) in
+          let t6 = declined (cuts (f .log) (m .idx) n (alike f m)) cutsCommitted brokenState _ (λ q. omega arith) (t5 .1) in
+          no-done (sym (declined (overfull after (f .pending)) noRoom brokenState _ (λ q. omega arith) (t6 .1) .1))
+
+      by-test : (b : Bool) → refuseIf b brokenState (refuseIf (misnumbered (m .run) (m .idx)) misnumberedRun (refuseIf (zeroTermIn (m .run)) zeroTerm (matchRun (f .log) (f .settled) (f .pending) (m .idx) (m .term) (m .commit) (m .run) n))) ≡ Refused brokenState → b ≡ true
+      by-test true h = refl
+      by-test false h = absurd (rest h)
+
+  -- a malformed message gets 2 or 3, where the state rules hold
+  pub malformed-refused : broken (f .log) (f .settled) (f .pending) ≡ false → (WellFormed m → ⊥) → (answer-to f m ≡ Refused misnumberedRun) ⊎ (answer-to f m ≡ Refused zeroTerm)
+  malformed-refused whole bad = by-tests (misnumbered (m .run) (m .idx)) (zeroTermIn (m .run)) refl refl
+    where
+      by-tests : (a b : Bool) → misnumbered (m .run) (m .idx) ≡ a → zeroTermIn (m .run) ≡ b → (answer-to f m ≡ Refused misnumberedRun) ⊎ (answer-to f m ≡ Refused zeroTerm)
+      by-tests true b p q = inl (unfold appendAnswer in simp (whole, p))
+      by-tests false true p q = inr (unfold appendAnswer in simp (whole, p, q))
+      by-tests false false p q = absurd (bad (p, q))
+
+  -- the engine's answer is what `maybe_append` promises
+  pub engine-answer : engine f m .answer ≡ answer-to f m
+  unfolding engine
+  engine-answer = refl
+
+  -- a refused message changes nothing
+  pub refused-unchanged : (s : ℕ) → engine f m .answer ≡ Refused s → engine f m .follower ≡ f
+  unfolding engine appendStore
+  refused-unchanged s e = ap (λ (a : Appended). outcome-of f m a .follower) e

@@ -1,0 +1,29 @@
+-- The leader: "One leader has a whole list from index 1 that only grows; messages cut from it reach a follower". A reader must know: `cut` is what it sends, and `CutFrom` says that a message is such a one, with any commit number.
+use Prim.Native.Nat.{ℕ, _+_, _≤_}
+use mathlib.Core.Path.{_≡_}
+use mathlib.Core.List.{List, [], _∷_}
+use lib.ListN.{length, take, drop}
+use Rattle.rules.specs.Log.{Entry, Log, term-of}
+use Rattle.two_ends.specs.Follower.{Message}
+
+-- The list as a log: it starts with (0, 0), which "comes before every list".
+abbrev pub whole-list : List Entry → Log
+whole-list xs = record { start = 0; start-term = 0; entries = xs }
+
+-- Records as a run, the first at index i.
+unfoldable pub as-run : ℕ → List Entry → List ℕ
+as-run i [] = []
+as-run i (e ∷ es) = i ∷ e .term ∷ e .body ∷ as-run (i + 1) es
+
+-- The n records after idx.
+abbrev pub records-after : List Entry → ℕ → ℕ → List Entry
+records-after xs idx n = take n (drop idx xs)
+
+-- The message with them, and any commit number. The previous term at idx 0 is 0.
+unfoldable pub cut : List Entry → ℕ → ℕ → ℕ → Message
+cut xs idx n commit = record { idx = idx; term = term-of (whole-list xs) idx; commit = commit; run = as-run (idx + 1) (records-after xs idx n) }
+
+pub record CutFrom (xs : List Entry) (m : Message) : Type 0 where
+  pub count : ℕ
+  pub inside : m .idx + count ≤ length xs
+  pub is : m ≡ cut xs (m .idx) count (m .commit)

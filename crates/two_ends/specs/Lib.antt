@@ -1,0 +1,6 @@
+pub mod Follower
+pub mod Leader
+pub mod TwoEnds
+pub mod World
+pub mod CatchUp
+pub mod Sanity

@@ -1,0 +1,106 @@
+-- Two ends to try the promise on, and receivers that must not keep it. A reader must know: each of these is the engine with one thing wrong; that `Theorem` fails of it is proved in proofs/Wrong.antt.
+use Prim.Native.Nat.{ℕ, _+_, max}
+use mathlib.Core.Bool.{true}
+use mathlib.Core.List.{List, [], _∷_}
+use Rattle.units.specs.Units.{indexOf, termOf}
+use Rattle.units.specs.Refusals.{brokenState, misnumberedRun, zeroTerm, mismatch}
+use Rattle.units.specs.declared.Index.{Index}
+use Rattle.rules.specs.Log.{Entry}
+use Rattle.raft_log.specs.declared.Log.{Log}
+use Rattle.raft_log.specs.declared.Appended.{Appended}
+use Rattle.raft_log.specs.declared.Appended.the-variants.{Done, Refused}
+use Rattle.raft_log.specs.Words.{runCount}
+use Rattle.raft_log.specs.State.{broken}
+use Rattle.raft_log.specs.Run.{misnumbered, zeroTermIn}
+use Rattle.raft_log.specs.Append.{withCommitted, cutIf, commitUp, mismatched, refuseIf, decide}
+use Rattle.raft_log.specs.Commit.{withPersisted}
+use Rattle.raft_log.specs.Setup.{fresh}
+use Rattle.two_ends.specs.Follower.{Follower, committed, Message, Receiver, answer-to, outcome-of, alike}
+use Rattle.two_ends.specs.Leader.{cut}
+
+-- ---- two ends
+
+abbrev pub entry : ℕ → ℕ → Entry
+entry t b = record { term = t; body = b }
+
+-- A leader's list: terms 1, 1, 2, 2.
+abbrev pub leader : List Entry
+leader = entry 1 11 ∷ entry 1 12 ∷ entry 2 13 ∷ entry 2 14 ∷ []
+
+-- A log that starts with (0, 0) and has applied 1, but for the four numbers that a message moves.
+abbrev pub log-with : ℕ → ℕ → ℕ → ℕ → Log
+log-with offset count committed persisted = record {
+  start = indexOf 0;
+  startterm = termOf 0;
+  offset = indexOf offset;
+  count = count;
+  committed = indexOf committed;
+  persisted = indexOf persisted;
+  applied = indexOf 1;
+}
+
+-- The words of a follower whose third record is another leader's: (1, 99), persisted, where the leader has (2, 13).
+abbrev pub settled-words : List ℕ
+settled-words = 1 ∷ 11 ∷ 1 ∷ 12 ∷ 1 ∷ 99 ∷ 0 ∷ 0 ∷ []
+
+abbrev pub follower : Follower
+follower = record { log = log-with 4 0 1 3; settled = settled-words; pending = 1 ∷ 99 ∷ 0 ∷ 0 ∷ [] }
+
+-- One that starts with the leader's second record, (2, 1), and has the same third.
+abbrev pub late : Follower
+late = record { log = fresh 2 1 3; settled = 1 ∷ 99 ∷ []; pending = 0 ∷ 0 ∷ 0 ∷ 0 ∷ [] }
+
+-- Messages of the leader's: its third record; its third and fourth; none after the first, committed up to 3; none after (0, 0).
+abbrev pub third : Message
+third = cut leader 2 1 9
+
+abbrev pub third-and-fourth : Message
+third-and-fourth = cut leader 2 2 0
+
+abbrev pub heartbeat : Message
+heartbeat = cut leader 1 0 3
+
+abbrev pub from-zero : Message
+from-zero = cut leader 0 0 0
+
+-- What the engine must make of the follower by `third`: the conflict is below offset, so pending is the leader's third record alone, and persisted falls.
+abbrev pub corrected : Follower
+corrected = record { log = log-with 3 1 3 2; settled = settled-words; pending = 2 ∷ 13 ∷ 0 ∷ 0 ∷ [] }
+
+-- ---- wrong receivers
+
+-- Another answer where the engine accepts; its refusals stay.
+abbrev pub accepting : (Index → Index → Log → Appended) → Appended → Appended
+accepting other (Done conflict last after) = other conflict last after
+accepting other (Refused number) = Refused number
+
+-- "An engine that turns everything down ..
+abbrev pub refuses-all : Receiver
+refuses-all f m = outcome-of f m (Refused mismatch)
+
+-- .. or says yes and stores nothing, has to be caught by these promises."
+abbrev pub stores-nothing : Receiver
+stores-nothing f m = outcome-of f m (accepting (λ conflict last after. Done (indexOf 0) last (f .log)) (answer-to f m))
+
+-- Cuts after idx on every message that is accepted, also where its run matches.
+abbrev pub cuts-always : Receiver
+cuts-always f m =
+    outcome-of f m (accepting (λ conflict last after. Done (indexOf (m .idx + 1)) last (commitUp (cutIf true (f .log) (m .idx + 1) (last .0)) (m .commit) (last .0))) (answer-to f m))
+
+-- Commits to the message's commit number, without the minimum.
+abbrev pub commits-blindly : Receiver
+commits-blindly f m = outcome-of f m (accepting (λ conflict last after. Done conflict last (withCommitted after (max (committed f) (m .commit)))) (answer-to f m))
+
+-- Leaves persisted where it was on a conflict.
+abbrev pub persisted-stays : Receiver
+persisted-stays f m = outcome-of f m (accepting (λ conflict last after. Done conflict last (withPersisted after (f .log .persisted .0))) (answer-to f m))
+
+-- Does not give 4: the table of `appendAnswer` without that line.
+abbrev pub no-refusal-4 : Receiver
+no-refusal-4 f m =
+    outcome-of f m
+    (refuseIf (broken (f .log) (f .settled) (f .pending)) brokenState
+    (refuseIf (misnumbered (m .run) (m .idx)) misnumberedRun
+    (refuseIf (zeroTermIn (m .run)) zeroTerm
+    (refuseIf (mismatched (f .log) (f .settled) (f .pending) (m .idx) (m .term)) mismatch
+    (decide (f .log) (f .pending) (m .idx) (m .commit) (runCount (m .run)) (alike f m))))))
