@@ -1,0 +1,4 @@
+pub mod Lengths
+pub mod ReadBack
+pub mod Results
+pub mod Unique

@@ -1,0 +1,55 @@
+-- Words across the boundary. A reader must know: a lent slice of words begins with a log's state, or with the values of an answer; what stands behind them is never read and stays as it is.
+-- The length of a state and of the values of an answer stands here, and nowhere else.
+use Prim.Native.Nat.{ℕ}
+use mathlib.Core.Bool.{cond}
+use mathlib.Core.List.{List, [], _∷_}
+use lib.ListN.{length, getD}
+use lib.Dec.{ltb}
+use lib.Seq.{sets}
+use Rattle.units.specs.Units.{indexOf, termOf}
+use Rattle.units.specs.Refusals.{brokenState}
+use Rattle.raft_log.specs.declared.Log.{Log}
+
+-- 01, "State and stores": "A log has a start (index, term) before its first record; offset, the index of the first pending record; committed, persisted, applied", and the pending count.
+abbrev pub logLength : ℕ
+logLength = 7
+
+-- The log whose state a slice begins with, in the order of `logWords`.
+unfoldable pub logFrom : List ℕ → Log
+logFrom words = record {
+  start = indexOf (getD words 0 0);
+  startterm = termOf (getD words 1 0);
+  offset = indexOf (getD words 2 0);
+  count = getD words 3 0;
+  committed = indexOf (getD words 4 0);
+  persisted = indexOf (getD words 5 0);
+  applied = indexOf (getD words 6 0);
+}
+
+-- The state of a log as words. That `logFrom` reads back what these say is proved in proofs/ReadBack.antt.
+abbrev pub logWords : Log → List ℕ
+logWords l = l .start .0 ∷ l .startterm .0 ∷ l .offset .0 ∷ l .count ∷ l .committed .0 ∷ l .persisted .0 ∷ l .applied .0 ∷ []
+
+-- The values of an answer that has two.
+abbrev pub pairLength : ℕ
+pairLength = 2
+
+-- A slice with its first words replaced; every other word stays.
+abbrev pub put : List ℕ → List ℕ → List ℕ
+put slice words = sets slice 0 words
+
+-- What a call leaves: its result, 0 or the refusal's number, and the slices that it may write, whole: the store, the state, the values, in this order and as far as it is lent them.
+pub record Outcome : Type 0 where
+  pub result : ℕ
+  pub slices : List (List ℕ)
+
+abbrev pub leaves : ℕ → List (List ℕ) → Outcome
+leaves result slices = record { result = result; slices = slices }
+
+-- An outcome with the store that the call writes.
+abbrev pub withStore : List ℕ → Outcome → Outcome
+withStore store out = leaves (out .result) (store ∷ out .slices)
+
+-- 01, refusal 1: "state rules or store lengths broken". So is a slice that is shorter than the words that it is for; all slices are then as they were.
+unfoldable pub unlessShort : List ℕ → ℕ → List (List ℕ) → Outcome → Outcome
+unlessShort slice words slices out = cond (ltb (length slice) words) (leaves brokenState slices) out
