@@ -6,7 +6,6 @@ pub mod Lists
 pub mod Queue
 pub mod Stays
 pub mod Unique
-pub mod Cases
 pub mod Walk
 pub mod Thin
 pub mod ThinNumber

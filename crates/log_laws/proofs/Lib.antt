@@ -1,4 +1,3 @@
-pub mod Cases
 pub mod Keep
 pub mod Views
 pub mod Cutting

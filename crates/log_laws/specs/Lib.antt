@@ -1,5 +1,4 @@
--- What is proved of the log: its cases, what each call keeps, the list of records that the state and the words stand for, and what is found there.
-pub mod Cases
+-- What is proved of the log: what each call keeps, the list of records that the state and the words stand for, what is found and sliced there, and which words stay.
 pub mod Keep
 pub mod View
 pub mod Looking

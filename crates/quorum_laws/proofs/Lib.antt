@@ -7,5 +7,4 @@ pub mod Ids
 pub mod Answers
 pub mod Order
 pub mod Shared
-pub mod Cases
 pub mod Unique

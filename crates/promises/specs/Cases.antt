@@ -1,0 +1,174 @@
+-- Document 01's cases that are marked P, as ONE table over the very definitions that the contracts cite, across log, quorums and window; and refusal 12 in each of its four ways.
+-- A reader must know: each line has its sentence of 01 beside it, and holds by computing both sides (proofs/Cases.antt). "Log A: start (0,0); terms of 1 to 5 are 1,1,2,2,3; offset 4; committed 2, persisted 3, applied 1; pending room 4 records". The bodies of A are 1 to 5, those of a run 6 and more.
+use Prim.Native.Nat.{ℕ, zero, suc}
+use mathlib.Core.Path.{_≡_, refl}
+use mathlib.Core.List.{List, [], _∷_, _++_}
+use Rattle.units.specs.Units.{indexOf, termOf}
+use Rattle.units.specs.Refusals.{outsideLog, mismatch, cutsCommitted, brokenSet}
+use Rattle.raft_log.specs.declared.Log.{Log}
+use Rattle.raft_log.specs.declared.Looked.the-variants as looked
+use Rattle.raft_log.specs.declared.ByTerm.{ByTerm}
+use Rattle.raft_log.specs.declared.ByTerm.the-variants as byterm
+use Rattle.raft_log.specs.declared.Appended.{Appended}
+use Rattle.raft_log.specs.declared.Appended.the-variants.{Done, Refused}
+use Rattle.raft_log.specs.Append.{appendAnswer, appendStore}
+use Rattle.raft_log.specs.Look.{lookTerm, byTerm}
+use Rattle.raft_log.specs.Setup.{fresh}
+use mathlib.Core.Bool.{false}
+use lib.ListN.{replicate}
+use Rattle.quorum.specs.Limits.{voterLimit, rowLimit}
+use Rattle.quorum.specs.Voters.{setOf, noVoters}
+use Rattle.quorum.specs.Majority.{committedIndex, voteResult}
+use Rattle.quorum.specs.Joint.{jointIndex}
+use Rattle.quorum.specs.declared.Committed.{Committed}
+use Rattle.quorum.specs.declared.Committed.the-variants as answer
+use Rattle.quorum.specs.declared.Verdict.the-variants as verdict
+use Rattle.quorum.specs.declared.VoteResult.the-variants as result
+use Rattle.quorum.specs.declared.majority.Voters.{Voters}
+use Rattle.quorum.specs.declared.joint.JointConfig.{JointConfig}
+use Rattle.quorum.specs.declared.rows.Ack.the-variants as ack
+use Rattle.quorum.specs.declared.rows.Vote.{Vote}
+use Rattle.quorum.specs.declared.rows.Vote.the-variants as vote
+use Rattle.quorum.specs.declared.rows.Peer.{Peer}
+use Rattle.inflights.specs.State.{startFits, deferredFits, sound, windowCheck, capCheck, isFull, roomCheck}
+use Rattle.inflights.specs.Ring.{placeOf, values, flightsFrom, flights, leading}
+use Rattle.inflights.specs.Calls.{made, withCap, setCapCheck, capped, fullness, addCheck, added, ringAfter, takeUp, freeTo, freedTo}
+use Rattle.inflights.specs.declared.Deferred.{Deferred}
+use Rattle.inflights.specs.declared.Deferred.the-variants.{Nothing, Cap}
+use Rattle.inflights.specs.declared.Inflights.{Inflights}
+use Rattle.inflights.specs.declared.Answer.the-variants.{Now}
+use Rattle.inflights.specs.declared.Fullness.the-variants.{Full, NotFull}
+
+-- ---- the log
+
+-- Log A, but for the four numbers that a message moves.
+abbrev pub likeA : ℕ → ℕ → ℕ → ℕ → Log
+likeA offset count committed persisted = record {
+  start = indexOf 0;
+  startterm = termOf 0;
+  offset = indexOf offset;
+  count = count;
+  committed = indexOf committed;
+  persisted = indexOf persisted;
+  applied = indexOf 1;
+}
+
+abbrev pub logA : Log
+logA = likeA 4 2 2 3
+
+abbrev pub settledA : List ℕ
+settledA = 1 ∷ 1 ∷ 1 ∷ 2 ∷ 2 ∷ 3 ∷ []
+
+abbrev pub pendingA : List ℕ
+pendingA = 2 ∷ 4 ∷ 3 ∷ 5 ∷ 0 ∷ 0 ∷ 0 ∷ 0 ∷ []
+
+-- `maybe_append(idx, term, commit, run)` on A gives this answer, and pending then has these words.
+pub record Appends (idx term commit : ℕ) (run : List ℕ) (answer : Appended) (words : List ℕ) : Type 0 where
+  pub answers : appendAnswer logA settledA pendingA idx term commit run ≡ answer
+  pub stores : appendStore answer pendingA idx run ≡ words
+
+-- "conflict and idx + count", and the log after it.
+abbrev pub taken : ℕ → ℕ → Log → Appended
+taken conflict last after = Done (indexOf conflict) (indexOf last) after
+
+abbrev pub found : ℕ → ℕ → ByTerm
+found index term = byterm.Found (indexOf index) (termOf term)
+
+-- ---- quorums
+
+-- So many ids, or voters, from one on.
+abbrev pub idsFrom : ℕ → ℕ → List ℕ
+idsFrom id zero = []
+idsFrom id (suc n) = id ∷ idsFrom (suc id) n
+
+abbrev pub votersFrom : ℕ → ℕ → Voters
+votersFrom id n = setOf (idsFrom id n)
+
+-- Rows whose ids rise from one on, and from 1 on: with these acknowledgements; with these votes.
+abbrev pub ackingFrom : ℕ → List ℕ → List Peer
+ackingFrom id [] = []
+ackingFrom id (a ∷ acks) = record { id = id; ack = ack.At (indexOf a); vote = vote.Missing } ∷ ackingFrom (suc id) acks
+
+abbrev pub acking : List ℕ → List Peer
+acking acks = ackingFrom 1 acks
+
+abbrev pub votingFrom : ℕ → List Vote → List Peer
+votingFrom id [] = []
+votingFrom id (v ∷ votes) = record { id = id; ack = ack.Missing; vote = v } ∷ votingFrom (suc id) votes
+
+abbrev pub voting : List Vote → List Peer
+voting votes = votingFrom 1 votes
+
+-- The answer "committed up to n".
+abbrev pub upTo : ℕ → Committed
+upTo n = answer.At (indexOf n) false
+
+-- Incoming 1, 2, 3, outgoing 4, 5.
+abbrev pub threeAndTwo : JointConfig
+threeAndTwo = record { incoming = votersFrom 1 3; outgoing = votersFrom 4 2 }
+
+-- ---- the window
+
+-- A window of cap 4.
+abbrev pub window : ℕ → ℕ → Deferred → Inflights
+window start count deferred = record { start = start; count = count; cap = 4; deferred = deferred }
+
+-- What stood in the ring before, and what stands there with all three flights.
+abbrev pub old : List ℕ
+old = 9 ∷ 9 ∷ 9 ∷ 9 ∷ []
+
+abbrev pub flown : List ℕ
+flown = 5 ∷ 5 ∷ 6 ∷ 9 ∷ []
+
+-- THE TABLE. Where 01 names no commit, the case holds for each; where it names no run, the run is empty.
+pub record DocumentCases : Type 0 where
+  -- "term(0) = 0, term(5) = 3, term(6) = 0."
+  pub term-0 : lookTerm logA settledA pendingA 0 ≡ looked.At (termOf 0)
+  pub term-5 : lookTerm logA settledA pendingA 5 ≡ looked.At (termOf 3)
+  pub term-6 : lookTerm logA settledA pendingA 6 ≡ looked.At (termOf 0)
+  -- "idx 5, term 3, empty, commit 9: (0, 5), committed 5."
+  pub empty : Appends 5 3 9 [] (taken 0 5 (likeA 4 2 5 3)) pendingA
+  -- "idx 3, term 2, records (4,2),(5,4),(6,4), commit 4: (5, 6), pending 4 to 6, committed 4, persisted 3."
+  pub second-differs : Appends 3 2 4 (4 ∷ 2 ∷ 6 ∷ 5 ∷ 4 ∷ 7 ∷ 6 ∷ 4 ∷ 8 ∷ []) (taken 5 6 (likeA 4 3 4 3)) (2 ∷ 4 ∷ 4 ∷ 7 ∷ 4 ∷ 8 ∷ 0 ∷ 0 ∷ [])
+  -- "idx 2, term 1, record (3,5), commit 2: (3, 3), offset 3, persisted 2."
+  pub below-offset : Appends 2 1 2 (3 ∷ 5 ∷ 6 ∷ []) (taken 3 3 (likeA 3 1 2 2)) (5 ∷ 6 ∷ 3 ∷ 5 ∷ 0 ∷ 0 ∷ 0 ∷ 0 ∷ [])
+  -- "idx 1, term 1, record (2,7): refusal 6."
+  pub below-committed : (commit : ℕ) → Appends 1 1 commit (2 ∷ 7 ∷ 6 ∷ []) (Refused cutsCommitted) pendingA
+  -- "Idx 5, term 2: refusal 5."
+  pub another-term : (commit : ℕ) → Appends 5 2 commit [] (Refused mismatch) pendingA
+  -- "idx 9, term 0, empty, commit 2: refusal 4."
+  pub beyond-last : Appends 9 0 2 [] (Refused outsideLog) pendingA
+  -- "find_conflict_by_term: (5,2) gives (4,2); (5,1) gives (2,1); (5,0) gives (0,0); (6,9) gives 6, none. With start (10,4): (10,3) gives (9,0)."
+  pub by-term-5-2 : byTerm logA settledA pendingA 5 2 ≡ found 4 2
+  pub by-term-5-1 : byTerm logA settledA pendingA 5 1 ≡ found 2 1
+  pub by-term-5-0 : byTerm logA settledA pendingA 5 0 ≡ found 0 0
+  pub by-term-6-9 : byTerm logA settledA pendingA 6 9 ≡ byterm.Beyond (indexOf 6)
+  pub by-term-10-3 : byTerm (fresh 10 4 10) [] [] 10 3 ≡ found 9 0
+  -- "acknowledgements 2,2,2,4,5 give 2; 9,7,7,3 give 7; one 5 and two missing give 0"
+  pub five-voters : committedIndex (votersFrom 1 5) (acking (2 ∷ 2 ∷ 2 ∷ 4 ∷ 5 ∷ [])) ≡ upTo 2
+  pub four-voters : committedIndex (votersFrom 1 4) (acking (9 ∷ 7 ∷ 7 ∷ 3 ∷ [])) ≡ upTo 7
+  pub two-missing : committedIndex (votersFrom 1 3) (acking (5 ∷ [])) ≡ upTo 0
+  pub two-rows-missing : committedIndex (votersFrom 1 3) (acking (5 ∷ []) ++ votingFrom 2 (vote.Missing ∷ vote.Missing ∷ [])) ≡ upTo 0
+  -- "incoming 5,4,3 gives 4, outgoing 3,8 gives 3, joint 3"
+  pub incoming : committedIndex (threeAndTwo .incoming) (acking (5 ∷ 4 ∷ 3 ∷ 3 ∷ 8 ∷ [])) ≡ upTo 4
+  pub outgoing : committedIndex (threeAndTwo .outgoing) (acking (5 ∷ 4 ∷ 3 ∷ 3 ∷ 8 ∷ [])) ≡ upTo 3
+  pub joint : jointIndex threeAndTwo (acking (5 ∷ 4 ∷ 3 ∷ 3 ∷ 8 ∷ [])) ≡ upTo 3
+  -- "four voters, two yes, one no: Pending; two yes, two no: Lost"
+  pub one-vote-missing : voteResult (votersFrom 1 4) (voting (vote.Yes ∷ vote.Yes ∷ vote.No ∷ [])) ≡ verdict.Stands result.Pending
+  pub two-against-two : voteResult (votersFrom 1 4) (voting (vote.Yes ∷ vote.Yes ∷ vote.No ∷ vote.No ∷ [])) ≡ verdict.Stands result.Lost
+  -- refusal 12: "over 7 voters, a repeated voter id, over 64 rows, a repeated row id"; the last two also where no voter reads the rows
+  pub too-many-voters : committedIndex (votersFrom 1 (suc voterLimit)) [] ≡ answer.Refused brokenSet
+  pub repeated-voter : committedIndex (setOf (1 ∷ 2 ∷ 1 ∷ [])) [] ≡ answer.Refused brokenSet
+  pub too-many-rows : committedIndex noVoters (acking (replicate (suc rowLimit) 0)) ≡ answer.Refused brokenSet
+  pub repeated-row : committedIndex (votersFrom 2 3) (acking (1 ∷ []) ++ acking (1 ∷ [])) ≡ answer.Refused brokenSet
+  -- "cap 4, flights 5,5,6: set_cap(2) defers and is full; free_to(5) leaves 6, not full." Each line begins where the one above it ended; the ring has 4 words.
+  pub window-new : made 4 4 ≡ Now (window 0 0 Nothing)
+  pub first-5 : (added (window 0 0 Nothing) 4 ≡ Now (window 0 1 Nothing)) × (ringAfter (window 0 0 Nothing) old 5 ≡ 5 ∷ 9 ∷ 9 ∷ 9 ∷ [])
+  pub second-5 : (added (window 0 1 Nothing) 4 ≡ Now (window 0 2 Nothing)) × (ringAfter (window 0 1 Nothing) (5 ∷ 9 ∷ 9 ∷ 9 ∷ []) 5 ≡ 5 ∷ 5 ∷ 9 ∷ 9 ∷ [])
+  pub then-6 : (added (window 0 2 Nothing) 4 ≡ Now (window 0 3 Nothing)) × (ringAfter (window 0 2 Nothing) (5 ∷ 5 ∷ 9 ∷ 9 ∷ []) 6 ≡ flown)
+  pub flights-5-5-6 : flights (window 0 3 Nothing) flown ≡ 5 ∷ 5 ∷ 6 ∷ []
+  pub cap-2-defers : capped (window 0 3 Nothing) 4 2 ≡ Now (window 0 3 (Cap 2))
+  pub then-full : fullness (window 0 3 (Cap 2)) 4 ≡ Full
+  pub free-to-5 : freedTo (window 0 3 (Cap 2)) flown 5 ≡ Now (window 2 1 (Cap 2))
+  pub leaves-6 : flights (window 2 1 (Cap 2)) flown ≡ 6 ∷ []
+  pub then-not-full : fullness (window 2 1 (Cap 2)) 4 ≡ NotFull
