@@ -3,9 +3,19 @@
 use Prim.Native.Nat.{ℕ}
 use mathlib.Core.List.{List, [], _∷_}
 use Rattle.raft_log.specs.Append.{appendAnswer, appendStore}
+use Rattle.raft_log.specs.Commit.{commitTo, appliedTo, maybeCommit, maybePersist}
+use Rattle.raft_log.specs.Extend.{extendAnswer, extendStore}
+use Rattle.raft_log.specs.Settle.{settleAnswer, settleStore}
+use Rattle.raft_log.specs.Setup.{setupAnswer}
 use Rattle.raft_log.specs.declared.Appended.{Appended}
 use Rattle.raft_log.specs.declared.Appended.the-variants as appended
-use Rattle.exports.specs.Words.{logLength, pairLength, logFrom, logWords, put, Outcome, leaves, withStore, unlessShort}
+use Rattle.raft_log.specs.declared.Changed.{Changed}
+use Rattle.raft_log.specs.declared.Changed.the-variants as changed
+use Rattle.raft_log.specs.declared.Decided.{Decided}
+use Rattle.raft_log.specs.declared.Decided.the-variants as decided
+use Rattle.raft_log.specs.declared.Extended.{Extended}
+use Rattle.raft_log.specs.declared.Extended.the-variants as extended
+use Rattle.exports.specs.Words.{logLength, singleLength, pairLength, logFrom, logWords, put, Outcome, leaves, withStore, unlessShort}
 
 -- What an answer of `maybe_append` leaves of `log` and `answer`: the state after it, and the values conflict, last.
 abbrev pub appendedLeaves : Appended → List ℕ → List ℕ → Outcome
@@ -20,3 +30,63 @@ maybeAppendLeaves log settled pending idx term commit run answer =
     unlessShort log logLength slices
     (unlessShort answer pairLength slices
     (withStore (appendStore said pending idx run) (appendedLeaves said log answer)))
+
+-- ---- The other calls that write
+
+-- What an answer of `append` leaves of `log` and `answer`: the state after it, and the value last.
+abbrev pub extendedLeaves : Extended → List ℕ → List ℕ → Outcome
+extendedLeaves (extended.Last last l) log answer = leaves 0 (put log (logWords l) ∷ put answer (last .0 ∷ []) ∷ [])
+extendedLeaves (extended.Refused number) log answer = leaves number (log ∷ answer ∷ [])
+
+-- What an answer without values leaves of `log`: the state after it.
+abbrev pub changedLeaves : Changed → List ℕ → Outcome
+changedLeaves (changed.Now l) log = leaves 0 (put log (logWords l) ∷ [])
+changedLeaves (changed.Refused number) log = leaves number (log ∷ [])
+
+-- What an answer yes or no leaves of `log` and `answer`: 1 and the state after it, or 0 and the state as it was.
+abbrev pub decidedLeaves : Decided → List ℕ → List ℕ → Outcome
+decidedLeaves (decided.Yes l) log answer = leaves 0 (put log (logWords l) ∷ put answer (1 ∷ []) ∷ [])
+decidedLeaves decided.No log answer = leaves 0 (log ∷ put answer (0 ∷ []) ∷ [])
+decidedLeaves (decided.Refused number) log answer = leaves number (log ∷ answer ∷ [])
+
+-- THE PROMISE of `log_new`: what it leaves of `log`, whose words it does not read. Any pending store will do.
+abbrev pub newLeaves : ℕ → ℕ → ℕ → List ℕ → List ℕ → Outcome
+newLeaves start startterm last settled log = unlessShort log logLength (log ∷ []) (changedLeaves (setupAnswer start startterm last settled) log)
+
+-- THE PROMISE of `log_append`: what it leaves of `pending`, `log` and `answer`.
+abbrev pub appendLeaves : List ℕ → List ℕ → List ℕ → List ℕ → List ℕ → Outcome
+appendLeaves log settled pending run answer =
+    let said = extendAnswer (logFrom log) settled pending run in
+    let slices = pending ∷ log ∷ answer ∷ [] in
+    unlessShort log logLength slices
+    (unlessShort answer singleLength slices
+    (withStore (extendStore said pending run) (extendedLeaves said log answer)))
+
+-- THE PROMISE of `log_commit_to`: what it leaves of `log`.
+abbrev pub commitToLeaves : List ℕ → List ℕ → List ℕ → ℕ → Outcome
+commitToLeaves log settled pending i = unlessShort log logLength (log ∷ []) (changedLeaves (commitTo (logFrom log) settled pending i) log)
+
+-- THE PROMISE of `log_maybe_commit`: what it leaves of `log` and `answer`.
+abbrev pub maybeCommitLeaves : List ℕ → List ℕ → List ℕ → ℕ → ℕ → List ℕ → Outcome
+maybeCommitLeaves log settled pending i t answer =
+    unlessShort log logLength (log ∷ answer ∷ [])
+    (unlessShort answer singleLength (log ∷ answer ∷ [])
+    (decidedLeaves (maybeCommit (logFrom log) settled pending i t) log answer))
+
+-- THE PROMISE of `log_applied_to`: what it leaves of `log`.
+abbrev pub appliedToLeaves : List ℕ → List ℕ → List ℕ → ℕ → Outcome
+appliedToLeaves log settled pending i = unlessShort log logLength (log ∷ []) (changedLeaves (appliedTo (logFrom log) settled pending i) log)
+
+-- THE PROMISE of `log_maybe_persist`: what it leaves of `log` and `answer`.
+abbrev pub maybePersistLeaves : List ℕ → List ℕ → List ℕ → ℕ → ℕ → List ℕ → Outcome
+maybePersistLeaves log settled pending i t answer =
+    unlessShort log logLength (log ∷ answer ∷ [])
+    (unlessShort answer singleLength (log ∷ answer ∷ [])
+    (decidedLeaves (maybePersist (logFrom log) settled pending i t) log answer))
+
+-- THE PROMISE of `log_stable_entries`: what it leaves of `settled` and `log`.
+abbrev pub stableEntriesLeaves : List ℕ → List ℕ → List ℕ → ℕ → ℕ → Outcome
+stableEntriesLeaves log settled pending i t =
+    let said = settleAnswer (logFrom log) settled pending i t in
+    unlessShort log logLength (settled ∷ log ∷ [])
+    (withStore (settleStore said (logFrom log) settled pending) (changedLeaves said log))

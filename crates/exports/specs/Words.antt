@@ -1,6 +1,6 @@
 -- Words across the boundary. A reader must know: a lent slice of words begins with a log's state, or with the values of an answer; what stands behind them is never read and stays as it is.
 -- The length of a state and of the values of an answer stands here, and nowhere else.
-use Prim.Native.Nat.{ℕ}
+use Prim.Native.Nat.{ℕ, _+_}
 use mathlib.Core.Bool.{cond}
 use mathlib.Core.List.{List, [], _∷_}
 use lib.ListN.{length, getD}
@@ -8,6 +8,7 @@ use lib.Dec.{ltb}
 use lib.Seq.{sets}
 use Rattle.units.specs.Units.{indexOf, termOf}
 use Rattle.units.specs.Refusals.{brokenState}
+use Rattle.quorum.specs.Limits.{idLimit}
 use Rattle.raft_log.specs.declared.Log.{Log}
 
 -- 01, "State and stores": "A log has a start (index, term) before its first record; offset, the index of the first pending record; committed, persisted, applied", and the pending count.
@@ -30,9 +31,29 @@ logFrom words = record {
 abbrev pub logWords : Log → List ℕ
 logWords l = l .start .0 ∷ l .startterm .0 ∷ l .offset .0 ∷ l .count ∷ l .committed .0 ∷ l .persisted .0 ∷ l .applied .0 ∷ []
 
+-- The value of an answer that has one.
+abbrev pub singleLength : ℕ
+singleLength = 1
+
 -- The values of an answer that has two.
 abbrev pub pairLength : ℕ
 pairLength = 2
+
+-- 01, Inflights: a window's start, count, cap, whether a smaller cap is deferred, and that cap. What each word says stands in WindowCalls.antt.
+abbrev pub windowLength : ℕ
+windowLength = 5
+
+-- The values of an answer that has three.
+abbrev pub tripleLength : ℕ
+tripleLength = 3
+
+-- The values of an answer that names a part of a store. What each says stands in Reads.antt.
+abbrev pub partLength : ℕ
+partLength = 5
+
+-- The values of an answer that lists ids: how many, and a word for each that there can be.
+abbrev pub idsLength : ℕ
+idsLength = idLimit + 1
 
 -- A slice with its first words replaced; every other word stays.
 abbrev pub put : List ℕ → List ℕ → List ℕ

@@ -1,0 +1,36 @@
+-- `joint_contains` meets its contract: too short a slice, or what the configuration answers.
+use borrow.Author.Needs.{needs}
+use native.Mathlib.Omega.{arith}
+use Rattle.exports.proofs.Lengths.{short, long}
+use Rattle.exports.proofs.Standing.{contains-alike}
+use Rattle.exports.proofs.quorums.joint_contains.Statement.{statement}
+use Rattle.exports.proofs.quorums.joint_contains.Tie as tie
+
+returns : tie.Need-returns
+returns c = short _ _ _ _ (omega arith)
+
+config-requires : tie.Need-config-requires
+config-requires c κs = search needs
+
+contains-requires : tie.Need-contains-requires
+contains-requires c κs = search needs
+
+write-answer-requires : tie.Need-write-answer-requires
+write-answer-requires c κs = search needs
+
+same-length : tie.Need-same-length
+same-length c = search needs
+
+returns-2 : tie.Need-returns-2
+returns-2 c = long _ _ _ _ (omega arith) (let at-config = c .before .before .before .before .before in cc (contains-alike (at-config .config .ensures) (at-config .before .before .before .before .before .args .id)))
+
+pub joint-contains-spec : {M : Type 1} → statement M
+joint-contains-spec =
+    tie.close
+    (tie.spec
+    returns
+    config-requires
+    contains-requires
+    write-answer-requires
+    same-length
+    returns-2)

@@ -1,0 +1,127 @@
+-- The exported calls that only read the log. A reader must know: each is the call of crate raft_log on the log whose state the slice `log` begins with, and writes `answer` alone.
+-- The result is 0 or the refusal's number. A refusal leaves `answer` as it was.
+use Prim.Native.Nat.{ℕ, _+_, _-_, _*_, _≤_}
+use mathlib.Core.Path.{_≡_}
+use mathlib.Core.Bool.{true, false, cond}
+use mathlib.Core.List.{List, [], _∷_}
+use lib.Dec.{eqb}
+use lib.ListN.{getD, take, drop}
+use Rattle.raft_log.specs.Words.{recordWords, room}
+use Rattle.raft_log.specs.Look.{lookTerm, lookFirst, lookLast, lookLastTerm, lookCommit, lookUpToDate, byTerm}
+use Rattle.raft_log.specs.Slice.{sliceBounds, entriesBounds, nextBounds, hasNextSince}
+use Rattle.raft_log.specs.declared.Log.{Log}
+use Rattle.raft_log.specs.declared.Looked.{Looked}
+use Rattle.raft_log.specs.declared.Looked.the-variants as looked
+use Rattle.raft_log.specs.declared.Placed.{Placed}
+use Rattle.raft_log.specs.declared.Placed.the-variants as placed
+use Rattle.raft_log.specs.declared.Told.{Told}
+use Rattle.raft_log.specs.declared.Told.the-variants as told
+use Rattle.raft_log.specs.declared.Info.{Info}
+use Rattle.raft_log.specs.declared.Info.the-variants as info
+use Rattle.raft_log.specs.declared.ByTerm.{ByTerm}
+use Rattle.raft_log.specs.declared.ByTerm.the-variants as byterm
+use Rattle.raft_log.specs.declared.Bounds.{Bounds}
+use Rattle.raft_log.specs.declared.Bounds.the-variants as bounds
+use Rattle.exports.specs.Words.{logLength, singleLength, pairLength, tripleLength, partLength, logFrom, put, Outcome, leaves, unlessShort}
+
+-- What each answer leaves of `answer`: its values, or the refusal's number as the result.
+abbrev pub lookedLeaves : Looked → List ℕ → Outcome
+lookedLeaves (looked.At term) answer = leaves 0 (put answer (term .0 ∷ []) ∷ [])
+lookedLeaves (looked.Refused number) answer = leaves number (answer ∷ [])
+
+abbrev pub placedLeaves : Placed → List ℕ → Outcome
+placedLeaves (placed.At index) answer = leaves 0 (put answer (index .0 ∷ []) ∷ [])
+placedLeaves (placed.Refused number) answer = leaves number (answer ∷ [])
+
+-- 1 for yes, 0 for no.
+abbrev pub toldLeaves : Told → List ℕ → Outcome
+toldLeaves (told.Is true) answer = leaves 0 (put answer (1 ∷ []) ∷ [])
+toldLeaves (told.Is false) answer = leaves 0 (put answer (0 ∷ []) ∷ [])
+toldLeaves (told.Refused number) answer = leaves number (answer ∷ [])
+
+abbrev pub infoLeaves : Info → List ℕ → Outcome
+infoLeaves (info.At index term) answer = leaves 0 (put answer (index .0 ∷ term .0 ∷ []) ∷ [])
+infoLeaves (info.Refused number) answer = leaves number (answer ∷ [])
+
+-- The index, 1 if a term goes with it, the term. 01: "i with no term if i > last".
+abbrev pub byTermLeaves : ByTerm → List ℕ → Outcome
+byTermLeaves (byterm.Found index term) answer = leaves 0 (put answer (index .0 ∷ 1 ∷ term .0 ∷ []) ∷ [])
+byTermLeaves (byterm.Beyond index) answer = leaves 0 (put answer (index .0 ∷ 0 ∷ 0 ∷ []) ∷ [])
+byTermLeaves (byterm.Refused number) answer = leaves number (answer ∷ [])
+
+-- 01, `slice`: "A run is a part of whichever store holds it, settled or pending, never a copy." So an answer names the part: the store's number, the first index, the index after the last, the part's first word in the store, how many words.
+-- The store's first record is at index first. What a caller finds there is `partOf` (proofs/Parts.antt).
+abbrev pub partWords : ℕ → ℕ → ℕ → ℕ → List ℕ
+partWords store first low high = store ∷ low ∷ high ∷ (low - first) * recordWords ∷ (high - low) * recordWords ∷ []
+
+abbrev pub inSettled : ℕ
+inSettled = 1
+
+abbrev pub inPending : ℕ
+inPending = 2
+
+-- 01, "State and stores": "settled holds indices start+1 to offset-1, pending holds offset to last".
+abbrev pub boundsLeaves : Bounds → Log → List ℕ → Outcome
+boundsLeaves bounds.Empty l answer = leaves 0 (put answer (0 ∷ 0 ∷ 0 ∷ 0 ∷ 0 ∷ []) ∷ [])
+boundsLeaves (bounds.Settled low high) l answer = leaves 0 (put answer (partWords inSettled (l .start .0 + 1) (low .0) (high .0)) ∷ [])
+boundsLeaves (bounds.Pending low high) l answer = leaves 0 (put answer (partWords inPending (l .offset .0) (low .0) (high .0)) ∷ [])
+boundsLeaves (bounds.Refused number) l answer = leaves number (answer ∷ [])
+
+-- What a call that only reads leaves, where its slices are long enough for the state and for so many words of an answer.
+abbrev pub reading : List ℕ → ℕ → List ℕ → Outcome → Outcome
+reading log words answer out = unlessShort log logLength (answer ∷ []) (unlessShort answer words (answer ∷ []) out)
+
+-- THE PROMISES of `log_term`, `log_first_index`, `log_last_index`, `log_last_term`, `log_commit_info`, `log_is_up_to_date`, `log_find_conflict_by_term`: what each leaves of `answer`.
+abbrev pub termLeaves : List ℕ → List ℕ → List ℕ → ℕ → List ℕ → Outcome
+termLeaves log settled pending i answer = reading log singleLength answer (lookedLeaves (lookTerm (logFrom log) settled pending i) answer)
+
+abbrev pub firstIndexLeaves : List ℕ → List ℕ → List ℕ → List ℕ → Outcome
+firstIndexLeaves log settled pending answer = reading log singleLength answer (placedLeaves (lookFirst (logFrom log) settled pending) answer)
+
+abbrev pub lastIndexLeaves : List ℕ → List ℕ → List ℕ → List ℕ → Outcome
+lastIndexLeaves log settled pending answer = reading log singleLength answer (placedLeaves (lookLast (logFrom log) settled pending) answer)
+
+abbrev pub lastTermLeaves : List ℕ → List ℕ → List ℕ → List ℕ → Outcome
+lastTermLeaves log settled pending answer = reading log singleLength answer (lookedLeaves (lookLastTerm (logFrom log) settled pending) answer)
+
+abbrev pub commitInfoLeaves : List ℕ → List ℕ → List ℕ → List ℕ → Outcome
+commitInfoLeaves log settled pending answer = reading log pairLength answer (infoLeaves (lookCommit (logFrom log) settled pending) answer)
+
+abbrev pub isUpToDateLeaves : List ℕ → List ℕ → List ℕ → ℕ → ℕ → List ℕ → Outcome
+isUpToDateLeaves log settled pending i t answer = reading log singleLength answer (toldLeaves (lookUpToDate (logFrom log) settled pending i t) answer)
+
+abbrev pub findConflictByTermLeaves : List ℕ → List ℕ → List ℕ → ℕ → ℕ → List ℕ → Outcome
+findConflictByTermLeaves log settled pending i t answer = reading log tripleLength answer (byTermLeaves (byTerm (logFrom log) settled pending i t) answer)
+
+-- THE PROMISES of `log_slice`, `log_entries`, `log_next_entries_since` and `log_has_next_entries_since`.
+abbrev pub sliceLeaves : List ℕ → List ℕ → List ℕ → ℕ → ℕ → List ℕ → Outcome
+sliceLeaves log settled pending low high answer = reading log partLength answer (boundsLeaves (sliceBounds (logFrom log) settled pending low high) (logFrom log) answer)
+
+abbrev pub entriesLeaves : List ℕ → List ℕ → List ℕ → ℕ → List ℕ → Outcome
+entriesLeaves log settled pending i answer = reading log partLength answer (boundsLeaves (entriesBounds (logFrom log) settled pending i) (logFrom log) answer)
+
+abbrev pub nextEntriesSinceLeaves : List ℕ → List ℕ → List ℕ → ℕ → List ℕ → Outcome
+nextEntriesSinceLeaves log settled pending s answer = reading log partLength answer (boundsLeaves (nextBounds (logFrom log) settled pending s) (logFrom log) answer)
+
+abbrev pub hasNextEntriesSinceLeaves : List ℕ → List ℕ → List ℕ → ℕ → List ℕ → Outcome
+hasNextEntriesSinceLeaves log settled pending s answer = reading log singleLength answer (toldLeaves (hasNextSince (logFrom log) settled pending s) answer)
+
+-- What a caller finds by the five words: so many words of the store that the first one names, from a word on.
+abbrev pub storeAt : ℕ → List ℕ → List ℕ → List ℕ
+storeAt number settled pending = cond (eqb number inSettled) settled pending
+
+abbrev pub partAt : List ℕ → List ℕ → List ℕ → List ℕ
+partAt answer settled pending = take (getD answer 4 0) (drop (getD answer 3 0) (storeAt (getD answer 0 0) settled pending))
+
+-- A store whose first record is at index first holds the records from low up to high.
+pub record Holds (store : List ℕ) (first low high : ℕ) : Type 0 where
+  pub above : first ≤ low
+  pub order : low ≤ high
+  pub below : high - first ≤ room store
+
+-- What is so of every answer of the three calls (proofs/Parts.antt): the store holds the part that it names, and 0 is no refusal's number.
+abbrev pub Sound : Bounds → Log → List ℕ → List ℕ → Type 0
+Sound bounds.Empty l settled pending = Unit {0}
+Sound (bounds.Settled low high) l settled pending = Holds settled (l .start .0 + 1) (low .0) (high .0)
+Sound (bounds.Pending low high) l settled pending = Holds pending (l .offset .0) (low .0) (high .0)
+Sound (bounds.Refused number) l settled pending = number ≡ 0 → ⊥

@@ -1,0 +1,59 @@
+-- Voters and peer rows as words. A reader must know: the words of a slice of voters are their ids, and four words of a slice of rows are a row.
+-- Nothing is judged here: too many or repeated ids (12) are refused by each question of crate quorum, by the set and the rows that the words say.
+use Prim.Native.Nat.{ℕ, _≤_}
+use mathlib.Core.Path.{_≡_}
+use mathlib.Core.Bool.{cond}
+use mathlib.Core.List.{List, [], _∷_}
+use lib.ListN.{length}
+use lib.Dec.{eqb}
+use Rattle.units.specs.Units.{indexOf}
+use Rattle.units.specs.declared.Check.{Check}
+use Rattle.units.specs.declared.Check.the-variants as checks
+use Rattle.quorum.specs.Limits.{rowLimit}
+use Rattle.quorum.specs.Voters.{setOf}
+use Rattle.quorum.specs.declared.joint.JointConfig.{JointConfig}
+use Rattle.quorum.specs.declared.rows.Ack.{Ack}
+use Rattle.quorum.specs.declared.rows.Ack.the-variants as ack
+use Rattle.quorum.specs.declared.rows.Vote.{Vote}
+use Rattle.quorum.specs.declared.rows.Vote.the-variants as vote
+use Rattle.quorum.specs.declared.rows.Peer.{Peer}
+use Rattle.peer_tables.specs.Table.{rowsIn}
+use Rattle.peer_tables.specs.declared.Table.{Table}
+
+-- Words of a row.
+abbrev pub rowLength : ℕ
+rowLength = 4
+
+-- 01, "State and stores": "A peer row holds its acknowledgement as missing or a number, and its vote as missing, yes or no."
+-- A word 0 says that the acknowledgement is missing; the number is then not read.
+abbrev pub ackFrom : ℕ → ℕ → Ack
+ackFrom known index = cond (eqb known 0) ack.Missing (ack.At (indexOf index))
+
+-- 1 is a yes, 2 a no, and any other word says that the vote is missing.
+abbrev pub voteFrom : ℕ → Vote
+voteFrom said = cond (eqb said 1) vote.Yes (cond (eqb said 2) vote.No vote.Missing)
+
+abbrev pub peerFrom : ℕ → ℕ → ℕ → ℕ → Peer
+peerFrom id known index said = record { id = id; ack = ackFrom known index; vote = voteFrom said }
+
+-- The rows that the words say, four words each. Words after the last whole row say nothing.
+unfoldable pub peersFrom : List ℕ → List Peer
+peersFrom [] = []
+peersFrom (id ∷ []) = []
+peersFrom (id ∷ known ∷ []) = []
+peersFrom (id ∷ known ∷ index ∷ []) = []
+peersFrom (id ∷ known ∷ index ∷ said ∷ words) = peerFrom id known index said ∷ peersFrom words
+
+-- The two halves that two slices of ids say.
+abbrev pub configFrom : List ℕ → List ℕ → JointConfig
+configFrom incoming outgoing = record { incoming = setOf incoming; outgoing = setOf outgoing }
+
+-- What the code hands to the questions. A set, or a configuration, that each question takes for another: its check says the same, and where it finds nothing wrong it is the same.
+pub record StandsFor {A : Type 0} (check : A → Check) (meant : A) (handed : A) : Type 0 where
+  pub refused-alike : check handed ≡ check meant
+  pub else-same : check meant ≡ checks.Fine → handed ≡ meant
+
+-- A table of these rows: where they are too many, only their number counts.
+pub record Holds (peers : List Peer) (t : Table) : Type 0 where
+  pub counted : t .count ≡ length peers
+  pub held : t .count ≤ rowLimit → rowsIn t ≡ peers

@@ -1,0 +1,106 @@
+-- The exported calls of the inflight window. A reader must know: each is the call of crate inflights on the window whose state the slice `window` begins with; a slice too short for the state or for the value of the answer is refusal 1.
+-- The result is 0 or the refusal's number. A refusal leaves every slice as it was.
+use Prim.Native.Nat.{ℕ}
+use mathlib.Core.Bool.{cond}
+use mathlib.Core.List.{List, [], _∷_}
+use lib.ListN.{length, getD}
+use lib.Dec.{eqb}
+use Rattle.inflights.specs.Calls.{made, capped, added, ringAfter, freedTo, freedFirst, cleared, rewound, fullness, counted}
+use Rattle.inflights.specs.declared.Inflights.{Inflights}
+use Rattle.inflights.specs.declared.Deferred.{Deferred}
+use Rattle.inflights.specs.declared.Deferred.the-variants as deferred
+use Rattle.inflights.specs.declared.Answer.{Answer}
+use Rattle.inflights.specs.declared.Answer.the-variants as answer
+use Rattle.inflights.specs.declared.Fullness.{Fullness}
+use Rattle.inflights.specs.declared.Fullness.the-variants as fullness-is
+use Rattle.inflights.specs.declared.Counted.{Counted}
+use Rattle.inflights.specs.declared.Counted.the-variants as count-is
+use Rattle.exports.specs.Words.{singleLength, windowLength, put, Outcome, leaves, withStore, unlessShort}
+
+-- ---- The window's words
+
+-- 01, Inflights: a smaller cap "is deferred until it empties". Two words say whether one is: any first word but 0 says so, and the second is then the cap.
+unfoldable pub deferredFrom : ℕ → ℕ → Deferred
+deferredFrom is cap = cond (eqb is 0) deferred.Nothing (deferred.Cap cap)
+
+-- The two words that say it: 1 and the cap, else 0 and 0.
+abbrev pub isDeferred : Deferred → ℕ
+isDeferred deferred.Nothing = 0
+isDeferred (deferred.Cap cap) = 1
+
+abbrev pub deferredCap : Deferred → ℕ
+deferredCap deferred.Nothing = 0
+deferredCap (deferred.Cap cap) = cap
+
+-- The window whose state a slice begins with, in the order of `windowWords`.
+unfoldable pub windowFrom : List ℕ → Inflights
+windowFrom words = record {
+  start = getD words 0 0;
+  count = getD words 1 0;
+  cap = getD words 2 0;
+  deferred = deferredFrom (getD words 3 0) (getD words 4 0);
+}
+
+-- The state of a window as words. That `windowFrom` reads back what these say is proved in proofs/WindowReadBack.antt.
+abbrev pub windowWords : Inflights → List ℕ
+windowWords w = w .start ∷ w .count ∷ w .cap ∷ isDeferred (w .deferred) ∷ deferredCap (w .deferred) ∷ []
+
+-- ---- What an answer leaves
+
+-- Of `window`, by a call that changes it.
+abbrev pub windowLeaves : Answer → List ℕ → Outcome
+windowLeaves (answer.Now w) window = leaves 0 (put window (windowWords w) ∷ [])
+windowLeaves (answer.Refused number) window = leaves number (window ∷ [])
+
+-- Of `answer`: 1 for yes, 0 for no.
+abbrev pub fullnessLeaves : Fullness → List ℕ → Outcome
+fullnessLeaves fullness-is.Full answer = leaves 0 (put answer (1 ∷ []) ∷ [])
+fullnessLeaves fullness-is.NotFull answer = leaves 0 (put answer (0 ∷ []) ∷ [])
+fullnessLeaves (fullness-is.Refused number) answer = leaves number (answer ∷ [])
+
+-- Of `answer`: the count.
+abbrev pub countedLeaves : Counted → List ℕ → Outcome
+countedLeaves (count-is.Is count) answer = leaves 0 (put answer (count ∷ []) ∷ [])
+countedLeaves (count-is.Refused number) answer = leaves number (answer ∷ [])
+
+-- ---- THE PROMISES, each of the call whose name it has
+
+-- What a call that changes the window, and no other slice, leaves of `window`, by its answer.
+abbrev pub changes : List ℕ → Answer → Outcome
+changes window said = unlessShort window windowLength (window ∷ []) (windowLeaves said window)
+
+abbrev pub newLeaves : ℕ → List ℕ → List ℕ → Outcome
+newLeaves cap ring window = changes window (made cap (length ring))
+
+abbrev pub setCapLeaves : List ℕ → List ℕ → ℕ → Outcome
+setCapLeaves window ring cap = changes window (capped (windowFrom window) (length ring) cap)
+
+abbrev pub freeToLeaves : List ℕ → List ℕ → ℕ → Outcome
+freeToLeaves window ring to = changes window (freedTo (windowFrom window) ring to)
+
+abbrev pub freeFirstOneLeaves : List ℕ → List ℕ → Outcome
+freeFirstOneLeaves window ring = changes window (freedFirst (windowFrom window) ring)
+
+abbrev pub resetLeaves : List ℕ → List ℕ → Outcome
+resetLeaves window ring = changes window (cleared (windowFrom window) (length ring))
+
+abbrev pub maybeFreeBufferLeaves : List ℕ → List ℕ → Outcome
+maybeFreeBufferLeaves window ring = changes window (rewound (windowFrom window) (length ring))
+
+-- Of `ring` and `window`. 01: "Only `add` writes a word."
+abbrev pub addLeaves : List ℕ → List ℕ → ℕ → Outcome
+addLeaves window ring inflight =
+    unlessShort window windowLength (ring ∷ window ∷ [])
+    (withStore (ringAfter (windowFrom window) ring inflight) (windowLeaves (added (windowFrom window) (length ring)) window))
+
+-- Of `answer`, by the two calls that only read.
+abbrev pub reads : List ℕ → List ℕ → Outcome → Outcome
+reads window answer out =
+    unlessShort window windowLength (answer ∷ [])
+    (unlessShort answer singleLength (answer ∷ []) out)
+
+abbrev pub fullLeaves : List ℕ → List ℕ → List ℕ → Outcome
+fullLeaves window ring answer = reads window answer (fullnessLeaves (fullness (windowFrom window) (length ring)) answer)
+
+abbrev pub countLeaves : List ℕ → List ℕ → List ℕ → Outcome
+countLeaves window ring answer = reads window answer (countedLeaves (counted (windowFrom window) (length ring)) answer)

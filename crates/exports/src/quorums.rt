@@ -1,0 +1,207 @@
+// The questions of crate quorum over words. Each tests that the answer has room, reads the sets and the rows, asks, and writes last.
+use crate::rows::config;
+use crate::rows::table;
+use crate::rows::voter_set;
+use crate::words::IDS;
+use crate::words::PAIR;
+use crate::words::SINGLE;
+use peer_tables::joint;
+use peer_tables::majority;
+use quorum::Committed;
+use quorum::Verdict;
+use quorum::VoteResult;
+use quorum::joint::Answer;
+use quorum::joint::Ids;
+use quorum::joint::JointConfig;
+use units::Check;
+use units::refusal::BROKEN_STATE;
+ghost use mathlib.Core.Path.{_≡_};
+ghost use mathlib.Core.List.{[], _∷_};
+ghost use Prim.Native.Nat.{_≤_};
+ghost use lib.ListN.{length};
+ghost use lib.Seq.{sets};
+ghost use Rattle.exports.specs.Words.{singleLength, pairLength, idsLength, leaves};
+ghost use Rattle.exports.specs.QuorumCalls.{flagWord, resultWord, committedLeaves, verdictLeaves, answerLeaves, idsLeaves, majorityIndexLeaves, majorityResultLeaves, jointIndexLeaves, jointResultLeaves, singletonLeaves, containsLeaves, jointIdsLeaves};
+
+// 1 for yes, 0 for no.
+fn flag(b: bool) -> u64
+    ensures { λ r. ⌜ r ≡ flagWord b ⌝ }
+{
+    if b { 1 } else { 0 }
+}
+
+fn result_word(result: VoteResult) -> u64
+    ensures { λ r. ⌜ r ≡ resultWord result ⌝ }
+{
+    match result {
+        VoteResult::Pending => 0,
+        VoteResult::Lost => 1,
+        VoteResult::Won => 2,
+    }
+}
+
+// What each answer says, written last; nothing where it refuses.
+fn write_committed(answer: &mut [u64], said: Committed) -> u64
+    requires { ⌜ pairLength ≤ length (now answer) ⌝ }
+    ensures { λ r. ⌜ leaves r (now (answer .exit) ∷ []) ≡ committedLeaves said (now (answer .entry)) ⌝ }
+{
+    match said {
+        Committed::At(index, free) => {
+            answer[0] = index.0;
+            answer[1] = flag(free);
+            0
+        }
+        Committed::Refused(number) => number,
+    }
+}
+
+fn write_verdict(answer: &mut [u64], said: Verdict) -> u64
+    requires { ⌜ singleLength ≤ length (now answer) ⌝ }
+    ensures { λ r. ⌜ leaves r (now (answer .exit) ∷ []) ≡ verdictLeaves said (now (answer .entry)) ⌝ }
+{
+    match said {
+        Verdict::Stands(result) => {
+            answer[0] = result_word(result);
+            0
+        }
+        Verdict::Refused(number) => number,
+    }
+}
+
+fn write_answer(answer: &mut [u64], said: Answer) -> u64
+    requires { ⌜ singleLength ≤ length (now answer) ⌝ }
+    ensures { λ r. ⌜ leaves r (now (answer .exit) ∷ []) ≡ answerLeaves said (now (answer .entry)) ⌝ }
+{
+    match said {
+        Answer::Is(b) => {
+            answer[0] = flag(b);
+            0
+        }
+        Answer::Refused(number) => number,
+    }
+}
+
+// The words of a list of ids, behind the first word.
+fn store_ids(answer: &mut [u64], ids: [u64; JointConfig::IDS])
+    requires { ⌜ idsLength ≤ length (now answer) ⌝ }
+    ensures { λ _. ⌜ now (answer .exit) ≡ sets (now (answer .entry)) 1 ids ⌝ }
+{
+    let mut i = 0;
+    while i < JointConfig::IDS {
+        answer[i + 1] = ids[i];
+        i += 1;
+    }
+}
+
+fn write_ids(answer: &mut [u64], said: Ids) -> u64
+    requires { ⌜ idsLength ≤ length (now answer) ⌝ }
+    ensures { λ r. ⌜ leaves r (now (answer .exit) ∷ []) ≡ idsLeaves said (now (answer .entry)) ⌝ }
+{
+    let check = said.check;
+    let Check::Fine = check else {
+        return check.refusal();
+    };
+    let ids = said.ids;
+    answer[0] = said.count as u64;
+    store_ids(answer, ids);
+    0
+}
+
+// How far a majority has acknowledged. Values: the index, and 1 if nobody had a say.
+#[no_mangle]
+pub extern "C" fn majority_committed_index(voters: &[u64], rows: &[u64], answer: &mut [u64]) -> u64
+    ensures { λ r. ⌜ leaves r (now (answer .exit) ∷ []) ≡ majorityIndexLeaves (now (voters .entry)) (now (rows .entry)) (now (answer .entry)) ⌝ }
+{
+    if answer.len() < PAIR {
+        return BROKEN_STATE;
+    }
+    let said = majority::committed_index(voter_set(voters), table(rows));
+    write_committed(answer, said)
+}
+
+// How the vote stands: 0 pending, 1 lost, 2 won.
+#[no_mangle]
+pub extern "C" fn majority_vote_result(voters: &[u64], rows: &[u64], answer: &mut [u64]) -> u64
+    ensures { λ r. ⌜ leaves r (now (answer .exit) ∷ []) ≡ majorityResultLeaves (now (voters .entry)) (now (rows .entry)) (now (answer .entry)) ⌝ }
+{
+    if answer.len() < SINGLE {
+        return BROKEN_STATE;
+    }
+    let said = majority::vote_result(voter_set(voters), table(rows));
+    write_verdict(answer, said)
+}
+
+// How far a majority of both halves has acknowledged.
+#[no_mangle]
+pub extern "C" fn joint_committed_index(
+    incoming: &[u64],
+    outgoing: &[u64],
+    rows: &[u64],
+    answer: &mut [u64],
+) -> u64
+    ensures { λ r. ⌜ leaves r (now (answer .exit) ∷ []) ≡ jointIndexLeaves (now (incoming .entry)) (now (outgoing .entry)) (now (rows .entry)) (now (answer .entry)) ⌝ }
+{
+    if answer.len() < PAIR {
+        return BROKEN_STATE;
+    }
+    let said = joint::committed_index(config(incoming, outgoing), table(rows));
+    write_committed(answer, said)
+}
+
+// How the vote of both halves stands.
+#[no_mangle]
+pub extern "C" fn joint_vote_result(
+    incoming: &[u64],
+    outgoing: &[u64],
+    rows: &[u64],
+    answer: &mut [u64],
+) -> u64
+    ensures { λ r. ⌜ leaves r (now (answer .exit) ∷ []) ≡ jointResultLeaves (now (incoming .entry)) (now (outgoing .entry)) (now (rows .entry)) (now (answer .entry)) ⌝ }
+{
+    if answer.len() < SINGLE {
+        return BROKEN_STATE;
+    }
+    let said = joint::vote_result(config(incoming, outgoing), table(rows));
+    write_verdict(answer, said)
+}
+
+// One incoming voter, and nobody outgoing.
+#[no_mangle]
+pub extern "C" fn joint_is_singleton(incoming: &[u64], outgoing: &[u64], answer: &mut [u64]) -> u64
+    ensures { λ r. ⌜ leaves r (now (answer .exit) ∷ []) ≡ singletonLeaves (now (incoming .entry)) (now (outgoing .entry)) (now (answer .entry)) ⌝ }
+{
+    if answer.len() < SINGLE {
+        return BROKEN_STATE;
+    }
+    let said = config(incoming, outgoing).is_singleton();
+    write_answer(answer, said)
+}
+
+// Whether `id` is a voter of either half.
+#[no_mangle]
+pub extern "C" fn joint_contains(
+    incoming: &[u64],
+    outgoing: &[u64],
+    id: u64,
+    answer: &mut [u64],
+) -> u64
+    ensures { λ r. ⌜ leaves r (now (answer .exit) ∷ []) ≡ containsLeaves (now (incoming .entry)) (now (outgoing .entry)) id (now (answer .entry)) ⌝ }
+{
+    if answer.len() < SINGLE {
+        return BROKEN_STATE;
+    }
+    let said = config(incoming, outgoing).contains(id);
+    write_answer(answer, said)
+}
+
+// The ids of both halves in rising order. Values: how many, and a word for each that there can be.
+#[no_mangle]
+pub extern "C" fn joint_ids(incoming: &[u64], outgoing: &[u64], answer: &mut [u64]) -> u64
+    ensures { λ r. ⌜ leaves r (now (answer .exit) ∷ []) ≡ jointIdsLeaves (now (incoming .entry)) (now (outgoing .entry)) (now (answer .entry)) ⌝ }
+{
+    if answer.len() < IDS {
+        return BROKEN_STATE;
+    }
+    let said = config(incoming, outgoing).ids();
+    write_ids(answer, said)
+}
