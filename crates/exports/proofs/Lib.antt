@@ -1,16 +1,7 @@
 pub mod Lengths
 pub mod ReadBack
 pub mod Results
-pub mod Unique
-pub mod WriteResults
-pub mod WriteUnique
-pub mod WindowReadBack
-pub mod WindowResults
-pub mod WindowUnique
 pub mod Parts
-pub mod UniqueReads
-pub mod ReadResults
 pub mod Laying
 pub mod Standing
-pub mod ResultsQuorums
-pub mod UniqueQuorums
+pub mod Unique

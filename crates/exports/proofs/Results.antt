@@ -1,93 +1,445 @@
--- What a caller may read off a result. 01, "Refusals": "Every refusal returns its number alone and changes nothing."; and 0 is no refusal's number.
+-- What a caller may read off a result, call by call in the order of include/deckplover.h. 01, "Refusals": "Every refusal returns its number alone and changes nothing."; and 0 is no refusal's number.
 use mathlib.Core.Path.{_≡_, refl}
-use mathlib.Core.Bool.{Bool, true, false, cond}
-use mathlib.Core.List.{List, [], _∷_}
-use Prim.Native.Nat.{ℕ}
+use mathlib.Core.Bool.{Bool, true, false, not, _&&_, _||_}
+use mathlib.Core.List.{List, [], _∷_, map}
+use Prim.Native.Nat.{ℕ, _-_, min}
 use native.Mathlib.Omega.{arith}
-use lib.Dec.{ltb}
+use lib.Dec.{eqb, leb, ltb}
 use lib.ListN.{length}
-use Rattle.units.specs.Refusals.{brokenState, misnumberedRun, zeroTerm, outsideLog, mismatch, cutsCommitted, noRoom}
-use Rattle.units.specs.declared.Index.{Index}
-use Rattle.raft_log.specs.State.{broken}
+use Rattle.units.specs.Refusals.{fineOr, bothChecks}
+use Rattle.units.specs.declared.Check.{Check}
+use Rattle.units.specs.declared.Check.the-variants as check
+use Rattle.raft_log.specs.Words.{runCount}
+use Rattle.raft_log.specs.State.{broken, lastOf}
 use Rattle.raft_log.specs.Run.{misnumbered, zeroTermIn}
-use Rattle.raft_log.specs.Append.{afterMessage, outside, mismatched, cuts, overfull, refuseIf, decide, matchRun, appendAnswer, appendStore}
+use Rattle.raft_log.specs.Append.{afterMessage, outside, mismatched, cuts, overfull, decide, matchRun, appendAnswer, appendStore, refuseIf as refuseAppended}
+use Rattle.raft_log.specs.Extend.{firstOf, badRun, startsCommitted, leavesGap, startsPersisted, unlessEmpty, extendFrom, extendAnswer, extendStore, extended as extendedLog, refuseIf as refuseExtended}
+use Rattle.raft_log.specs.Commit.{refuseIf, changedIf, decideUnless, yesIf, mayCommit, mayPersist, commitTo, appliedTo, maybeCommit, maybePersist}
+use Rattle.raft_log.specs.Settle.{settledOverfull, isLast, settleAnswer, settleStore}
+use Rattle.raft_log.specs.Setup.{setupOk, settledZero, setupAnswer}
+use Rattle.raft_log.specs.Look.{termUnless, indexUnless, isUnless, infoUnless, lookTerm, lookFirst, lookLast, lookLastTerm, lookCommit, lookUpToDate, either, byTermIn, byTerm}
+use Rattle.raft_log.specs.Slice.{sliceBounds, entriesBounds, nextBounds, hasNextSince}
 use Rattle.raft_log.specs.declared.Log.{Log}
 use Rattle.raft_log.specs.declared.Appended.{Appended}
 use Rattle.raft_log.specs.declared.Appended.the-variants as appended
+use Rattle.raft_log.specs.declared.Extended.{Extended}
+use Rattle.raft_log.specs.declared.Extended.the-variants as extended
+use Rattle.raft_log.specs.declared.Changed.{Changed}
+use Rattle.raft_log.specs.declared.Changed.the-variants as changed
+use Rattle.raft_log.specs.declared.Decided.{Decided}
+use Rattle.raft_log.specs.declared.Decided.the-variants as decided
+use Rattle.raft_log.specs.declared.Looked.the-variants as looked
+use Rattle.raft_log.specs.declared.Placed.the-variants as placed
+use Rattle.raft_log.specs.declared.Told.the-variants as told
+use Rattle.raft_log.specs.declared.Info.the-variants as info
+use Rattle.raft_log.specs.declared.ByTerm.{ByTerm}
+use Rattle.raft_log.specs.declared.ByTerm.the-variants as byterm
+use Rattle.raft_log.specs.declared.Bounds.{Bounds}
+use Rattle.raft_log.specs.declared.Bounds.the-variants as bounds
+use Rattle.quorum.specs.Limits.{voterLimit, rowLimit}
+use Rattle.quorum.specs.Ids.{distinct}
+use Rattle.quorum.specs.Rows.{idOf, rowsCheck}
+use Rattle.quorum.specs.Voters.{votersOf, votersCheck, setOf}
+use Rattle.quorum.specs.Majority.{indexUnless as committedUnless, resultUnless, committedIndex, voteResult}
+use Rattle.quorum.specs.Joint.{configCheck, isUnless as answerUnless, listedUnless, jointIndex, jointVerdict, singleton, containsOf, idsAnswer}
+use Rattle.quorum.specs.declared.half.Half.{Half}
+use Rattle.quorum.specs.declared.Committed.the-variants as committed
+use Rattle.quorum.specs.declared.Verdict.the-variants as verdict
+use Rattle.quorum.specs.declared.VoteResult.{VoteResult}
+use Rattle.quorum.specs.declared.joint.Answer.the-variants as joint-answer
+use Rattle.quorum.specs.declared.joint.JointConfig.{JointConfig}
+use Rattle.quorum.specs.declared.majority.Voters.{Voters}
+use Rattle.quorum.specs.declared.rows.Peer.{Peer}
+use Rattle.leader.specs.Leader.{commitFound, leaderCommit}
+use Rattle.inflights.specs.State.{sound, windowCheck, capCheck, isFull, roomCheck}
+use Rattle.inflights.specs.Calls.{windowUnless, fullUnless, countUnless, ringUnless, made, setCapCheck, capped, fullness, counted, addCheck, added, ringAfter, freedTo, freedFirst, cleared, rewound}
+use Rattle.inflights.specs.declared.Inflights.{Inflights}
+use Rattle.inflights.specs.declared.Answer.the-variants as window-answer
+use Rattle.inflights.specs.declared.Fullness.the-variants as fullness-is
+use Rattle.inflights.specs.declared.Counted.the-variants as count-is
 use Rattle.exports.specs.Words.{logFrom, Outcome, leaves, withStore, unlessShort}
-use Rattle.exports.specs.LogCalls.{appendedLeaves, maybeAppendLeaves}
+use Rattle.exports.specs.LogCalls.{appendedLeaves, extendedLeaves, changedLeaves, decidedLeaves, newLeaves, maybeAppendLeaves, appendLeaves, commitToLeaves, maybeCommitLeaves, appliedToLeaves, maybePersistLeaves, stableEntriesLeaves}
+use Rattle.exports.specs.Reads.{lookedLeaves, placedLeaves, toldLeaves, infoLeaves, byTermLeaves, boundsLeaves, termLeaves, firstIndexLeaves, lastIndexLeaves, lastTermLeaves, commitInfoLeaves, isUpToDateLeaves, findConflictByTermLeaves, sliceLeaves, entriesLeaves, nextEntriesSinceLeaves, hasNextEntriesSinceLeaves, Sound}
+use Rattle.exports.specs.Rows.{peersFrom, configFrom}
+use Rattle.exports.specs.QuorumCalls.{committedLeaves, verdictLeaves, answerLeaves, idsLeaves, majorityIndexLeaves, majorityResultLeaves, jointIndexLeaves, jointResultLeaves, singletonLeaves, containsLeaves, jointIdsLeaves, leaderCommitLeaves}
+use Rattle.exports.specs.WindowCalls.{windowFrom, windowLeaves, fullnessLeaves, countedLeaves, changes, newLeaves as windowNewLeaves, setCapLeaves, addLeaves, freeToLeaves, freeFirstOneLeaves, resetLeaves, maybeFreeBufferLeaves, fullLeaves, countLeaves}
+use Rattle.exports.proofs.Lengths.{by-length}
+use Rattle.exports.proofs.Parts.{slice-sound, entries-sound, next-sound}
 
-by-test : (P : Outcome → Type 0) (b : Bool) {x y : Outcome} → P x → P y → P (cond b x y)
-by-test P true p q = p
-by-test P false p q = q
+-- The result tells what happened: other than 0, these slices are as they were; 0, what the call below said is no refusal.
+pub record Tells {A : Type 0} (refused : ℕ → A) (said : A) (slices : List (List ℕ)) (out : Outcome) : Type 0 where
+  pub keeps : (out .result ≡ 0 → ⊥) → out .slices ≡ slices
+  pub taken : out .result ≡ 0 → (n : ℕ) → said ≡ refused n → ⊥
 
--- What holds of the refusal and of the call's own outcome holds at both ends of a test of a slice's length.
-pub either-end : (P : Outcome → Type 0) (slice : List ℕ) (words : ℕ) (slices : List (List ℕ)) {out : Outcome}
-    → P (leaves brokenState slices) → P out → P (unlessShort slice words slices out)
-unfolding unlessShort
-either-end P slice words slices short long = by-test P (ltb (length slice) words) short long
+module _ {A : Type 0} {refused : ℕ → A} {said : A} {slices : List (List ℕ)} where
+  -- So do a refusal, whose number is not 0,
+  refuses : {number : ℕ} → (number ≡ 0 → ⊥) → Tells refused said slices (leaves number slices)
+  refuses h = record { keeps = λ g. refl; taken = λ z n e. h z }
 
--- A result other than 0 leaves these slices.
-abbrev pub Keeps : List (List ℕ) → Outcome → Type 0
-Keeps slices out = (out .result ≡ 0 → ⊥) → out .slices ≡ slices
+  -- an answer that is none (then 0 would be 1),
+  answers : {left : List (List ℕ)} → ((n : ℕ) → said ≡ refused n → _≡_ {A = ℕ} 0 1) → Tells refused said slices (leaves 0 left)
+  answers h = record { keeps = λ g. absurd (g refl); taken = λ z n e. let never : _≡_ {A = ℕ} 0 1 = h n e in omega arith }
 
--- A result of 0 is no refusal of the call below.
-abbrev pub Taken : Appended → Outcome → Type 0
-Taken said out = out .result ≡ 0 → (n : ℕ) → said ≡ appended.Refused n → ⊥
+  -- and each of them behind a test of a slice's length.
+  behind : (slice : List ℕ) (words : ℕ) {out : Outcome} → Tells refused said slices out → Tells refused said slices (unlessShort slice words slices out)
+  behind slice words {out} tells = by-length slice words slices out (Tells refused said slices) (refuses (omega arith)) (λ h. tells)
 
--- ---- `maybe_append` refuses by no 0
+-- A check that refuses by no 0.
+abbrev Numbered : Check → Type 0
+Numbered c = (n : ℕ) → c ≡ check.Refused n → n ≡ 0 → ⊥
 
-abbrev Numbered : Appended → Type 0
-Numbered said = (n : ℕ) → said ≡ appended.Refused n → n ≡ 0 → ⊥
+-- So are a rule's own check, and both of two such checks.
+fine-numbered : (b : Bool) {number : ℕ} → (number ≡ 0 → ⊥) → Numbered (fineOr b number)
+fine-numbered true h n e z = let never : _≡_ {A = ℕ} 0 1 = cc in omega arith
+fine-numbered false {number} h n e z = h (let same : number ≡ n = cc in omega arith)
 
-refuse-numbered : (b : Bool) (number : ℕ) (said : Appended) → (number ≡ 0 → ⊥) → Numbered said → Numbered (refuseIf b number said)
-refuse-numbered true number said h g n e z = h (let same : number ≡ n = cc in omega arith)
-refuse-numbered false number said h g n e z = g n e z
+both-numbered : (c : Check) {d : Check} → Numbered c → Numbered d → Numbered (bothChecks c d)
+both-numbered check.Fine g h = h
+both-numbered (check.Refused n) g h = g
 
-done-numbered : (conflict last : Index) (l : Log) → Numbered (appended.Done conflict last l)
-done-numbered conflict last l n e z = let never : _≡_ {A = ℕ} 0 1 = cc in omega arith
+-- ---- The log
 
-module _ (l : Log) (settled pending : List ℕ) (idx term commit : ℕ) (run : List ℕ) where
-  decide-numbered : (n k : ℕ) → Numbered (decide l pending idx commit n k)
-  unfolding decide
-  decide-numbered n k =
-      refuse-numbered (cuts l idx n k) cutsCommitted _ (omega arith)
-      (refuse-numbered (overfull (afterMessage l idx n k commit) pending) noRoom _ (omega arith) (done-numbered _ _ _))
+-- What holds of both ends of a test holds of the answer.
+module _ (P : Changed → Type 0) where
+  changed-refused : (b : Bool) {number : ℕ} {said : Changed} → P (changed.Refused number) → P said → P (refuseIf b number said)
+  changed-refused true p q = p
+  changed-refused false p q = q
 
-  match-numbered : (n : ℕ) → Numbered (matchRun l settled pending idx term commit run n)
-  unfolding matchRun
-  match-numbered n =
-      refuse-numbered (outside l idx term) outsideLog _ (omega arith)
-      (refuse-numbered (mismatched l settled pending idx term) mismatch _ (omega arith) (decide-numbered n _))
+  changed-either : (b : Bool) {x y : Changed} → P x → P y → P (changedIf b x y)
+  changed-either true p q = p
+  changed-either false p q = q
 
-  append-numbered : Numbered (appendAnswer l settled pending idx term commit run)
-  unfolding appendAnswer
-  append-numbered =
-      refuse-numbered (broken l settled pending) brokenState _ (omega arith)
-      (refuse-numbered (misnumbered run idx) misnumberedRun _ (omega arith)
-      (refuse-numbered (zeroTermIn run) zeroTerm _ (omega arith) (match-numbered _)))
+-- An answer without values.
+abbrev Changes : List ℕ → Changed → Type 0
+Changes log said = Tells changed.Refused said (log ∷ []) (changedLeaves said log)
 
--- ---- `log_maybe_append`
+pub log-new-tells : (start startterm last : ℕ) (settled log : List ℕ) → Tells changed.Refused (setupAnswer start startterm last settled) (log ∷ []) (newLeaves start startterm last settled log)
+unfolding setupAnswer
+log-new-tells start startterm last settled log =
+    behind _ _
+    (changed-refused (Changes log) (not (setupOk start startterm last settled)) (refuses (omega arith))
+    (changed-refused (Changes log) (settledZero settled (last - start)) (refuses (omega arith)) (answers (λ n e. cc))))
+
+-- What each answer of the calls that only read tells.
+module _ (answer : List ℕ) where
+  looked-tells : (b : Bool) (t : ℕ) → Tells looked.Refused (termUnless b t) (answer ∷ []) (lookedLeaves (termUnless b t) answer)
+  looked-tells true t = refuses (omega arith)
+  looked-tells false t = answers (λ n e. cc)
+
+  placed-tells : (b : Bool) (i : ℕ) → Tells placed.Refused (indexUnless b i) (answer ∷ []) (placedLeaves (indexUnless b i) answer)
+  placed-tells true i = refuses (omega arith)
+  placed-tells false i = answers (λ n e. cc)
+
+  told-tells : (b is : Bool) → Tells told.Refused (isUnless b is) (answer ∷ []) (toldLeaves (isUnless b is) answer)
+  told-tells true is = refuses (omega arith)
+  told-tells false is = answers (λ n e. cc)
+
+  info-tells : (b : Bool) (i t : ℕ) → Tells info.Refused (infoUnless b i t) (answer ∷ []) (infoLeaves (infoUnless b i t) answer)
+  info-tells true i t = refuses (omega arith)
+  info-tells false i t = answers (λ n e. cc)
+
+  abbrev Finds : ByTerm → Type 0
+  Finds said = Tells byterm.Refused said (answer ∷ []) (byTermLeaves said answer)
+
+  by-term-either : (b : Bool) {x y : ByTerm} → Finds x → Finds y → Finds (either b x y)
+  by-term-either true p q = p
+  by-term-either false p q = q
+
+  bounds-tells : (said : Bounds) (l : Log) (settled pending : List ℕ) → Sound said l settled pending → Tells bounds.Refused said (answer ∷ []) (boundsLeaves said l answer)
+  bounds-tells bounds.Empty l settled pending s = answers (λ n e. cc)
+  bounds-tells (bounds.Settled low high) l settled pending s = answers (λ n e. cc)
+  bounds-tells (bounds.Pending low high) l settled pending s = answers (λ n e. cc)
+  bounds-tells (bounds.Refused number) l settled pending s = refuses s
+
+module _ (log settled pending : List ℕ) where
+  pub log-term-tells : (i : ℕ) (answer : List ℕ) → Tells looked.Refused (lookTerm (logFrom log) settled pending i) (answer ∷ []) (termLeaves log settled pending i answer)
+  unfolding lookTerm
+  log-term-tells i answer = behind _ _ (behind _ _ (looked-tells answer (broken (logFrom log) settled pending) _))
+
+  pub log-first-index-tells : (answer : List ℕ) → Tells placed.Refused (lookFirst (logFrom log) settled pending) (answer ∷ []) (firstIndexLeaves log settled pending answer)
+  unfolding lookFirst
+  log-first-index-tells answer = behind _ _ (behind _ _ (placed-tells answer (broken (logFrom log) settled pending) _))
+
+  pub log-last-index-tells : (answer : List ℕ) → Tells placed.Refused (lookLast (logFrom log) settled pending) (answer ∷ []) (lastIndexLeaves log settled pending answer)
+  unfolding lookLast
+  log-last-index-tells answer = behind _ _ (behind _ _ (placed-tells answer (broken (logFrom log) settled pending) _))
+
+  pub log-last-term-tells : (answer : List ℕ) → Tells looked.Refused (lookLastTerm (logFrom log) settled pending) (answer ∷ []) (lastTermLeaves log settled pending answer)
+  unfolding lookLastTerm
+  log-last-term-tells answer = behind _ _ (behind _ _ (looked-tells answer (broken (logFrom log) settled pending) _))
+
+  pub log-commit-info-tells : (answer : List ℕ) → Tells info.Refused (lookCommit (logFrom log) settled pending) (answer ∷ []) (commitInfoLeaves log settled pending answer)
+  unfolding lookCommit
+  log-commit-info-tells answer = behind _ _ (behind _ _ (info-tells answer (broken (logFrom log) settled pending) _ _))
+
+  pub log-is-up-to-date-tells : (i t : ℕ) (answer : List ℕ) → Tells told.Refused (lookUpToDate (logFrom log) settled pending i t) (answer ∷ []) (isUpToDateLeaves log settled pending i t answer)
+  unfolding lookUpToDate
+  log-is-up-to-date-tells i t answer = behind _ _ (behind _ _ (told-tells answer (broken (logFrom log) settled pending) _))
+
+  pub log-find-conflict-by-term-tells : (i t : ℕ) (answer : List ℕ) → Tells byterm.Refused (byTerm (logFrom log) settled pending i t) (answer ∷ []) (findConflictByTermLeaves log settled pending i t answer)
+  unfolding byTerm byTermIn
+  log-find-conflict-by-term-tells i t answer =
+      behind _ _ (behind _ _
+      (by-term-either answer (broken (logFrom log) settled pending) (refuses (omega arith))
+      (by-term-either answer (ltb (lastOf (logFrom log)) i) (answers (λ n e. cc)) (answers (λ n e. cc)))))
 
 module _ (log settled pending : List ℕ) (idx term commit : ℕ) (run answer : List ℕ) where
-  appended-keeps : (said : Appended) → Keeps (pending ∷ log ∷ answer ∷ []) (withStore (appendStore said pending idx run) (appendedLeaves said log answer))
+  -- An answer of `maybe_append`, and the pending store after it.
+  abbrev Appends : Appended → Type 0
+  Appends said = Tells appended.Refused said (pending ∷ log ∷ answer ∷ []) (withStore (appendStore said pending idx run) (appendedLeaves said log answer))
+
+  append-refused : (b : Bool) {number : ℕ} {said : Appended} → (number ≡ 0 → ⊥) → Appends said → Appends (refuseAppended b number said)
   unfolding appendStore
-  appended-keeps (appended.Done conflict last l) h = absurd (h refl)
-  appended-keeps (appended.Refused n) h = refl
+  append-refused true h g = refuses h
+  append-refused false h g = g
 
-  abbrev said : Appended
-  said = appendAnswer (logFrom log) settled pending idx term commit run
+  pub log-maybe-append-tells : Tells appended.Refused (appendAnswer (logFrom log) settled pending idx term commit run) (pending ∷ log ∷ answer ∷ []) (maybeAppendLeaves log settled pending idx term commit run answer)
+  unfolding appendAnswer matchRun decide appendStore
+  log-maybe-append-tells =
+      behind _ _ (behind _ _
+      (append-refused (broken (logFrom log) settled pending) (omega arith)
+      (append-refused (misnumbered run idx) (omega arith)
+      (append-refused (zeroTermIn run) (omega arith)
+      (append-refused (outside (logFrom log) idx term) (omega arith)
+      (append-refused (mismatched (logFrom log) settled pending idx term) (omega arith)
+      (append-refused (cuts (logFrom log) idx (runCount run) _) (omega arith)
+      (append-refused (overfull (afterMessage (logFrom log) idx (runCount run) _ commit) pending) (omega arith) (answers (λ n e. cc))))))))))
 
-  abbrev slices : List (List ℕ)
-  slices = pending ∷ log ∷ answer ∷ []
+module _ (log settled pending run answer : List ℕ) where
+  -- An answer of `append`, and the pending store after it.
+  abbrev Extends : Extended → Type 0
+  Extends said = Tells extended.Refused said (pending ∷ log ∷ answer ∷ []) (withStore (extendStore said pending run) (extendedLeaves said log answer))
 
-  -- A refusal changes nothing.
-  pub maybe-append-keeps : Keeps slices (maybeAppendLeaves log settled pending idx term commit run answer)
-  maybe-append-keeps = either-end (Keeps slices) _ _ _ (λ h. refl) (either-end (Keeps slices) _ _ _ (λ h. refl) (appended-keeps said))
+  extend-refused : (b : Bool) {number : ℕ} {said : Extended} → (number ≡ 0 → ⊥) → Extends said → Extends (refuseExtended b number said)
+  unfolding extendStore
+  extend-refused true h g = refuses h
+  extend-refused false h g = g
 
-  -- A result of 0 is an answer with values.
-  pub maybe-append-taken : Taken said (maybeAppendLeaves log settled pending idx term commit run answer)
-  maybe-append-taken =
-      either-end (Taken said) _ _ _ (λ z n e. omega arith)
-      (either-end (Taken said) _ _ _ (λ z n e. omega arith)
-      (λ z n e. append-numbered _ _ _ _ _ _ _ n e (rw e at z)))
+  extend-either : (b : Bool) {x y : Extended} → Extends x → Extends y → Extends (unlessEmpty b x y)
+  extend-either true p q = p
+  extend-either false p q = q
+
+  pub log-append-tells : Tells extended.Refused (extendAnswer (logFrom log) settled pending run) (pending ∷ log ∷ answer ∷ []) (appendLeaves log settled pending run answer)
+  unfolding extendAnswer extendFrom extendStore
+  log-append-tells =
+      behind _ _ (behind _ _
+      (extend-refused (broken (logFrom log) settled pending) (omega arith)
+      (extend-refused (badRun run) (omega arith)
+      (extend-refused (zeroTermIn run) (omega arith)
+      (extend-either (eqb (length run) 0) (answers (λ n e. cc))
+      (extend-refused (startsCommitted (logFrom log) (firstOf run)) (omega arith)
+      (extend-refused (leavesGap (logFrom log) (firstOf run)) (omega arith)
+      (extend-refused (overfull (extendedLog (logFrom log) (firstOf run) (runCount run)) pending) (omega arith)
+      (extend-refused (startsPersisted (logFrom log) (firstOf run)) (omega arith) (answers (λ n e. cc)))))))))))
+
+-- An answer yes or no, and the state after it.
+module _ (log answer : List ℕ) where
+  abbrev Decides : Decided → Type 0
+  Decides said = Tells decided.Refused said (log ∷ answer ∷ []) (decidedLeaves said log answer)
+
+  decided-tells : (b : Bool) {said : Decided} → Decides said → Decides (decideUnless b said)
+  decided-tells true g = refuses (omega arith)
+  decided-tells false g = g
+
+  yes-tells : (b : Bool) (l : Log) → Decides (yesIf b l)
+  yes-tells true l = answers (λ n e. cc)
+  yes-tells false l = answers (λ n e. cc)
+
+module _ (log settled pending : List ℕ) where
+  pub log-commit-to-tells : (i : ℕ) → Tells changed.Refused (commitTo (logFrom log) settled pending i) (log ∷ []) (commitToLeaves log settled pending i)
+  unfolding commitTo
+  log-commit-to-tells i =
+      behind _ _
+      (changed-refused (Changes log) (broken (logFrom log) settled pending) (refuses (omega arith))
+      (changed-either (Changes log) (leb i (logFrom log .committed .0)) (answers (λ n e. cc))
+      (changed-refused (Changes log) (ltb (lastOf (logFrom log)) i) (refuses (omega arith)) (answers (λ n e. cc)))))
+
+  pub log-maybe-commit-tells : (i t : ℕ) (answer : List ℕ) → Tells decided.Refused (maybeCommit (logFrom log) settled pending i t) (log ∷ answer ∷ []) (maybeCommitLeaves log settled pending i t answer)
+  unfolding maybeCommit
+  log-maybe-commit-tells i t answer = behind _ _ (behind _ _ (decided-tells log answer (broken (logFrom log) settled pending) (yes-tells log answer (mayCommit (logFrom log) settled pending i t) _)))
+
+  pub log-applied-to-tells : (i : ℕ) → Tells changed.Refused (appliedTo (logFrom log) settled pending i) (log ∷ []) (appliedToLeaves log settled pending i)
+  unfolding appliedTo
+  log-applied-to-tells i =
+      behind _ _
+      (changed-refused (Changes log) (broken (logFrom log) settled pending) (refuses (omega arith))
+      (changed-either (Changes log) (eqb i 0) (answers (λ n e. cc))
+      (changed-refused (Changes log) (ltb (min (logFrom log .committed .0) (logFrom log .persisted .0)) i || ltb i (logFrom log .applied .0)) (refuses (omega arith)) (answers (λ n e. cc)))))
+
+  pub log-maybe-persist-tells : (i t : ℕ) (answer : List ℕ) → Tells decided.Refused (maybePersist (logFrom log) settled pending i t) (log ∷ answer ∷ []) (maybePersistLeaves log settled pending i t answer)
+  unfolding maybePersist
+  log-maybe-persist-tells i t answer = behind _ _ (behind _ _ (decided-tells log answer (broken (logFrom log) settled pending) (yes-tells log answer (mayPersist (logFrom log) settled i t) _)))
+
+  -- An answer without values, and the settled store after it.
+  abbrev Settles : Changed → Type 0
+  Settles said = Tells changed.Refused said (settled ∷ log ∷ []) (withStore (settleStore said (logFrom log) settled pending) (changedLeaves said log))
+
+  pub log-stable-entries-tells : (i t : ℕ) → Tells changed.Refused (settleAnswer (logFrom log) settled pending i t) (settled ∷ log ∷ []) (stableEntriesLeaves log settled pending i t)
+  unfolding settleAnswer settleStore
+  log-stable-entries-tells i t =
+      behind _ _
+      (changed-refused Settles (broken (logFrom log) settled pending) (refuses (omega arith))
+      (changed-refused Settles (settledOverfull (logFrom log) settled) (refuses (omega arith))
+      (changed-refused Settles (not (isLast (logFrom log) settled pending i t)) (refuses (omega arith)) (answers (λ n e. cc)))))
+
+  pub log-slice-tells : (low high : ℕ) (answer : List ℕ) → Tells bounds.Refused (sliceBounds (logFrom log) settled pending low high) (answer ∷ []) (sliceLeaves log settled pending low high answer)
+  log-slice-tells low high answer = behind _ _ (behind _ _ (bounds-tells answer _ _ settled pending (slice-sound (logFrom log) settled pending low high)))
+
+  pub log-entries-tells : (i : ℕ) (answer : List ℕ) → Tells bounds.Refused (entriesBounds (logFrom log) settled pending i) (answer ∷ []) (entriesLeaves log settled pending i answer)
+  log-entries-tells i answer = behind _ _ (behind _ _ (bounds-tells answer _ _ settled pending (entries-sound (logFrom log) settled pending i)))
+
+  pub log-next-entries-since-tells : (s : ℕ) (answer : List ℕ) → Tells bounds.Refused (nextBounds (logFrom log) settled pending s) (answer ∷ []) (nextEntriesSinceLeaves log settled pending s answer)
+  log-next-entries-since-tells s answer = behind _ _ (behind _ _ (bounds-tells answer _ _ settled pending (next-sound (logFrom log) settled pending s)))
+
+  pub log-has-next-entries-since-tells : (s : ℕ) (answer : List ℕ) → Tells told.Refused (hasNextSince (logFrom log) settled pending s) (answer ∷ []) (hasNextEntriesSinceLeaves log settled pending s answer)
+  unfolding hasNextSince
+  log-has-next-entries-since-tells s answer = behind _ _ (behind _ _ (told-tells answer (broken (logFrom log) settled pending) _))
+
+-- ---- The quorums, and the leader's step
+
+-- No check of sets and rows refuses by 0.
+voters-numbered : (v : Voters) → Numbered (votersCheck v)
+voters-numbered v = fine-numbered (leb (v .count) voterLimit && distinct (votersOf v)) (omega arith)
+
+rows-numbered : (peers : List Peer) → Numbered (rowsCheck peers)
+rows-numbered peers = fine-numbered (leb (length peers) rowLimit && distinct (map idOf peers)) (omega arith)
+
+config-numbered : (c : JointConfig) → Numbered (configCheck c)
+config-numbered c = both-numbered _ (voters-numbered (c .incoming)) (voters-numbered (c .outgoing))
+
+set-numbered : (v : Voters) (peers : List Peer) → Numbered (bothChecks (votersCheck v) (rowsCheck peers))
+set-numbered v peers = both-numbered _ (voters-numbered v) (rows-numbered peers)
+
+sets-numbered : (c : JointConfig) (peers : List Peer) → Numbered (bothChecks (configCheck c) (rowsCheck peers))
+sets-numbered c peers = both-numbered _ (config-numbered c) (rows-numbered peers)
+
+-- What each answer of the questions tells, by its check.
+module _ (answer : List ℕ) where
+  committed-tells : (c : Check) (h : Half) → Numbered c → Tells committed.Refused (committedUnless c h) (answer ∷ []) (committedLeaves (committedUnless c h) answer)
+  committed-tells check.Fine h g = answers (λ n e. cc)
+  committed-tells (check.Refused m) h g = refuses (g m refl)
+
+  verdict-tells : (c : Check) (r : VoteResult) → Numbered c → Tells verdict.Refused (resultUnless c r) (answer ∷ []) (verdictLeaves (resultUnless c r) answer)
+  verdict-tells check.Fine r g = answers (λ n e. cc)
+  verdict-tells (check.Refused m) r g = refuses (g m refl)
+
+  answer-tells : (c : Check) (b : Bool) → Numbered c → Tells joint-answer.Refused (answerUnless c b) (answer ∷ []) (answerLeaves (answerUnless c b) answer)
+  answer-tells check.Fine b g = answers (λ n e. cc)
+  answer-tells (check.Refused m) b g = refuses (g m refl)
+
+  listed-tells : (c : Check) (ids : List ℕ) → Numbered c → Tells check.Refused (listedUnless c ids .check) (answer ∷ []) (idsLeaves (listedUnless c ids) answer)
+  listed-tells check.Fine ids g = answers (λ n e. cc)
+  listed-tells (check.Refused m) ids g = refuses (g m refl)
+
+module _ (rows answer : List ℕ) where
+  pub majority-committed-index-tells : (voters : List ℕ) → Tells committed.Refused (committedIndex (setOf voters) (peersFrom rows)) (answer ∷ []) (majorityIndexLeaves voters rows answer)
+  unfolding committedIndex
+  majority-committed-index-tells voters = behind _ _ (committed-tells answer _ _ (set-numbered (setOf voters) (peersFrom rows)))
+
+  pub joint-committed-index-tells : (incoming outgoing : List ℕ) → Tells committed.Refused (jointIndex (configFrom incoming outgoing) (peersFrom rows)) (answer ∷ []) (jointIndexLeaves incoming outgoing rows answer)
+  unfolding jointIndex
+  joint-committed-index-tells incoming outgoing = behind _ _ (committed-tells answer _ _ (sets-numbered (configFrom incoming outgoing) (peersFrom rows)))
+
+  pub majority-vote-result-tells : (voters : List ℕ) → Tells verdict.Refused (voteResult (setOf voters) (peersFrom rows)) (answer ∷ []) (majorityResultLeaves voters rows answer)
+  unfolding voteResult
+  majority-vote-result-tells voters = behind _ _ (verdict-tells answer _ _ (set-numbered (setOf voters) (peersFrom rows)))
+
+  pub joint-vote-result-tells : (incoming outgoing : List ℕ) → Tells verdict.Refused (jointVerdict (configFrom incoming outgoing) (peersFrom rows)) (answer ∷ []) (jointResultLeaves incoming outgoing rows answer)
+  unfolding jointVerdict
+  joint-vote-result-tells incoming outgoing = behind _ _ (verdict-tells answer _ _ (sets-numbered (configFrom incoming outgoing) (peersFrom rows)))
+
+module _ (incoming outgoing answer : List ℕ) where
+  pub joint-is-singleton-tells : Tells joint-answer.Refused (singleton (configFrom incoming outgoing)) (answer ∷ []) (singletonLeaves incoming outgoing answer)
+  joint-is-singleton-tells = behind _ _ (answer-tells answer _ _ (config-numbered (configFrom incoming outgoing)))
+
+  pub joint-contains-tells : (id : ℕ) → Tells joint-answer.Refused (containsOf (configFrom incoming outgoing) id) (answer ∷ []) (containsLeaves incoming outgoing id answer)
+  joint-contains-tells id = behind _ _ (answer-tells answer _ _ (config-numbered (configFrom incoming outgoing)))
+
+  pub joint-ids-tells : Tells check.Refused (idsAnswer (configFrom incoming outgoing) .check) (answer ∷ []) (jointIdsLeaves incoming outgoing answer)
+  joint-ids-tells = behind _ _ (listed-tells answer _ _ (config-numbered (configFrom incoming outgoing)))
+
+module _ (log settled pending : List ℕ) (term : ℕ) (incoming outgoing rows answer : List ℕ) where
+  -- The step on the index that was found, by the check of the sets and rows.
+  found-tells : (c : Check) (h : Half) → Numbered c → Decides log answer (commitFound (logFrom log) settled pending term (committedUnless c h))
+  unfolding maybeCommit
+  found-tells check.Fine h g = decided-tells log answer (broken (logFrom log) settled pending) (yes-tells log answer (mayCommit (logFrom log) settled pending (h .index) term) _)
+  found-tells (check.Refused m) h g = decided-tells log answer (broken (logFrom log) settled pending) (refuses (g m refl))
+
+  pub leader-maybe-commit-tells : Tells decided.Refused (leaderCommit (logFrom log) settled pending term (configFrom incoming outgoing) (peersFrom rows)) (log ∷ answer ∷ []) (leaderCommitLeaves log settled pending term incoming outgoing rows answer)
+  unfolding leaderCommit jointIndex
+  leader-maybe-commit-tells = behind _ _ (behind _ _ (found-tells _ _ (sets-numbered (configFrom incoming outgoing) (peersFrom rows))))
+
+-- ---- The inflight window
+
+-- No check of a window refuses by 0.
+cap-numbered : (cap n : ℕ) → Numbered (capCheck cap n)
+unfolding capCheck
+cap-numbered cap n = fine-numbered (leb cap n) (omega arith)
+
+window-numbered : (w : Inflights) (n : ℕ) → Numbered (windowCheck w n)
+unfolding windowCheck
+window-numbered w n = fine-numbered (sound w n) (omega arith)
+
+room-numbered : (w : Inflights) → Numbered (roomCheck w)
+unfolding roomCheck
+room-numbered w = fine-numbered (not (isFull w)) (omega arith)
+
+-- What each answer tells, by its check.
+changes-tells : (window : List ℕ) (c : Check) (w : Inflights) → Numbered c → Tells window-answer.Refused (windowUnless c w) (window ∷ []) (changes window (windowUnless c w))
+changes-tells window check.Fine w g = behind _ _ (answers (λ n e. cc))
+changes-tells window (check.Refused m) w g = behind _ _ (refuses (g m refl))
+
+added-tells : (window ring written : List ℕ) (c : Check) (w : Inflights) → Numbered c
+    → Tells window-answer.Refused (windowUnless c w) (ring ∷ window ∷ []) (withStore (ringUnless c ring written) (windowLeaves (windowUnless c w) window))
+added-tells window ring written check.Fine w g = answers (λ n e. cc)
+added-tells window ring written (check.Refused m) w g = refuses (g m refl)
+
+module _ (answer : List ℕ) where
+  fullness-tells : (c : Check) (b : Bool) → Numbered c → Tells fullness-is.Refused (fullUnless c b) (answer ∷ []) (fullnessLeaves (fullUnless c b) answer)
+  fullness-tells check.Fine true g = answers (λ n e. cc)
+  fullness-tells check.Fine false g = answers (λ n e. cc)
+  fullness-tells (check.Refused m) b g = refuses (g m refl)
+
+  counted-tells : (c : Check) (count : ℕ) → Numbered c → Tells count-is.Refused (countUnless c count) (answer ∷ []) (countedLeaves (countUnless c count) answer)
+  counted-tells check.Fine count g = answers (λ n e. cc)
+  counted-tells (check.Refused m) count g = refuses (g m refl)
+
+pub inflights-new-tells : (cap : ℕ) (ring window : List ℕ) → Tells window-answer.Refused (made cap (length ring)) (window ∷ []) (windowNewLeaves cap ring window)
+unfolding made
+inflights-new-tells cap ring window = changes-tells window _ _ (cap-numbered cap (length ring))
+
+module _ (window ring : List ℕ) where
+  abbrev w : Inflights
+  w = windowFrom window
+
+  pub inflights-set-cap-tells : (cap : ℕ) → Tells window-answer.Refused (capped w (length ring) cap) (window ∷ []) (setCapLeaves window ring cap)
+  unfolding capped setCapCheck
+  inflights-set-cap-tells cap = changes-tells window _ _ (both-numbered _ (window-numbered w (length ring)) (cap-numbered cap (length ring)))
+
+  pub inflights-add-tells : (inflight : ℕ) → Tells window-answer.Refused (added w (length ring)) (ring ∷ window ∷ []) (addLeaves window ring inflight)
+  unfolding added addCheck ringAfter
+  inflights-add-tells inflight = behind _ _ (added-tells window ring _ _ _ (both-numbered _ (window-numbered w (length ring)) (room-numbered w)))
+
+  pub inflights-free-to-tells : (to : ℕ) → Tells window-answer.Refused (freedTo w ring to) (window ∷ []) (freeToLeaves window ring to)
+  unfolding freedTo
+  inflights-free-to-tells to = changes-tells window _ _ (window-numbered w (length ring))
+
+  pub inflights-free-first-one-tells : Tells window-answer.Refused (freedFirst w ring) (window ∷ []) (freeFirstOneLeaves window ring)
+  unfolding freedFirst freedTo
+  inflights-free-first-one-tells = changes-tells window _ _ (window-numbered w (length ring))
+
+  pub inflights-reset-tells : Tells window-answer.Refused (cleared w (length ring)) (window ∷ []) (resetLeaves window ring)
+  unfolding cleared
+  inflights-reset-tells = changes-tells window _ _ (window-numbered w (length ring))
+
+  pub inflights-maybe-free-buffer-tells : Tells window-answer.Refused (rewound w (length ring)) (window ∷ []) (maybeFreeBufferLeaves window ring)
+  unfolding rewound
+  inflights-maybe-free-buffer-tells = changes-tells window _ _ (window-numbered w (length ring))
+
+  pub inflights-full-tells : (answer : List ℕ) → Tells fullness-is.Refused (fullness w (length ring)) (answer ∷ []) (fullLeaves window ring answer)
+  unfolding fullness
+  inflights-full-tells answer = behind _ _ (behind _ _ (fullness-tells answer _ _ (window-numbered w (length ring))))
+
+  pub inflights-count-tells : (answer : List ℕ) → Tells count-is.Refused (counted w (length ring)) (answer ∷ []) (countLeaves window ring answer)
+  unfolding counted
+  inflights-count-tells answer = behind _ _ (behind _ _ (counted-tells answer _ _ (window-numbered w (length ring))))

@@ -1,6 +1,6 @@
 pub mod Words
-pub mod LogCalls
-pub mod WindowCalls
-pub mod Reads
 pub mod Rows
+pub mod Reads
+pub mod LogCalls
 pub mod QuorumCalls
+pub mod WindowCalls

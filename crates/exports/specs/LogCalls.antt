@@ -1,6 +1,7 @@
 -- The exported calls of the log. A reader must know: each is the call of crate raft_log on the log whose state the slice `log` begins with; a slice too short for the state or for the values of the answer is refusal 1.
 -- The result is 0 or the refusal's number. A refusal leaves every slice as it was.
 use Prim.Native.Nat.{ℕ}
+use mathlib.Core.Bool.{true, false}
 use mathlib.Core.List.{List, [], _∷_}
 use Rattle.raft_log.specs.Append.{appendAnswer, appendStore}
 use Rattle.raft_log.specs.Commit.{commitTo, appliedTo, maybeCommit, maybePersist}
@@ -15,7 +16,7 @@ use Rattle.raft_log.specs.declared.Decided.{Decided}
 use Rattle.raft_log.specs.declared.Decided.the-variants as decided
 use Rattle.raft_log.specs.declared.Extended.{Extended}
 use Rattle.raft_log.specs.declared.Extended.the-variants as extended
-use Rattle.exports.specs.Words.{logLength, singleLength, pairLength, logFrom, logWords, put, Outcome, leaves, withStore, unlessShort}
+use Rattle.exports.specs.Words.{logLength, singleLength, pairLength, logFrom, logWords, flagWord, put, Outcome, leaves, withStore, unlessShort}
 
 -- What an answer of `maybe_append` leaves of `log` and `answer`: the state after it, and the values conflict, last.
 abbrev pub appendedLeaves : Appended → List ℕ → List ℕ → Outcome
@@ -43,10 +44,10 @@ abbrev pub changedLeaves : Changed → List ℕ → Outcome
 changedLeaves (changed.Now l) log = leaves 0 (put log (logWords l) ∷ [])
 changedLeaves (changed.Refused number) log = leaves number (log ∷ [])
 
--- What an answer yes or no leaves of `log` and `answer`: 1 and the state after it, or 0 and the state as it was.
+-- What an answer yes or no leaves of `log` and `answer`: a yes and the state after it, or a no and the state as it was.
 abbrev pub decidedLeaves : Decided → List ℕ → List ℕ → Outcome
-decidedLeaves (decided.Yes l) log answer = leaves 0 (put log (logWords l) ∷ put answer (1 ∷ []) ∷ [])
-decidedLeaves decided.No log answer = leaves 0 (log ∷ put answer (0 ∷ []) ∷ [])
+decidedLeaves (decided.Yes l) log answer = leaves 0 (put log (logWords l) ∷ put answer (flagWord true ∷ []) ∷ [])
+decidedLeaves decided.No log answer = leaves 0 (log ∷ put answer (flagWord false ∷ []) ∷ [])
 decidedLeaves (decided.Refused number) log answer = leaves number (log ∷ answer ∷ [])
 
 -- THE PROMISE of `log_new`: what it leaves of `log`, whose words it does not read. Any pending store will do.

@@ -1,7 +1,6 @@
 -- The exported questions of crate quorum, and the leader's commit step. A reader must know: each is the call below on the sets and rows that the words say (specs/Rows.antt), and hands its refusal on; a slice too short for the answer, or for a log's state, is refusal 1 and comes first.
 -- 12 needs no word of its own: a set of over 7 or repeated ids, and over 64 or repeated rows, are refused by the call below.
 use Prim.Native.Nat.{ℕ}
-use mathlib.Core.Bool.{Bool, cond}
 use mathlib.Core.List.{List, [], _∷_}
 use Rattle.units.specs.declared.Check.{Check}
 use Rattle.units.specs.declared.Check.the-variants as check
@@ -18,13 +17,9 @@ use Rattle.quorum.specs.declared.joint.Answer.{Answer}
 use Rattle.quorum.specs.declared.joint.Answer.the-variants as answer
 use Rattle.quorum.specs.declared.joint.Ids.{Ids}
 use Rattle.leader.specs.Leader.{leaderCommit}
-use Rattle.exports.specs.Words.{logLength, singleLength, pairLength, idsLength, logFrom, put, Outcome, leaves, unlessShort}
+use Rattle.exports.specs.Words.{logLength, singleLength, pairLength, idsLength, logFrom, flagWord, put, Outcome, leaves, unlessShort}
 use Rattle.exports.specs.LogCalls.{decidedLeaves}
 use Rattle.exports.specs.Rows.{peersFrom, configFrom}
-
--- A yes or a no as a word.
-abbrev pub flagWord : Bool → ℕ
-flagWord b = cond b 1 0
 
 -- How a vote stands, as a word.
 abbrev pub resultWord : VoteResult → ℕ

@@ -22,7 +22,7 @@ use Rattle.raft_log.specs.declared.ByTerm.{ByTerm}
 use Rattle.raft_log.specs.declared.ByTerm.the-variants as byterm
 use Rattle.raft_log.specs.declared.Bounds.{Bounds}
 use Rattle.raft_log.specs.declared.Bounds.the-variants as bounds
-use Rattle.exports.specs.Words.{logLength, singleLength, pairLength, tripleLength, partLength, logFrom, put, Outcome, leaves, unlessShort}
+use Rattle.exports.specs.Words.{logLength, singleLength, pairLength, tripleLength, partLength, logFrom, flagWord, put, Outcome, leaves, unlessShort}
 
 -- What each answer leaves of `answer`: its values, or the refusal's number as the result.
 abbrev pub lookedLeaves : Looked → List ℕ → Outcome
@@ -33,20 +33,18 @@ abbrev pub placedLeaves : Placed → List ℕ → Outcome
 placedLeaves (placed.At index) answer = leaves 0 (put answer (index .0 ∷ []) ∷ [])
 placedLeaves (placed.Refused number) answer = leaves number (answer ∷ [])
 
--- 1 for yes, 0 for no.
 abbrev pub toldLeaves : Told → List ℕ → Outcome
-toldLeaves (told.Is true) answer = leaves 0 (put answer (1 ∷ []) ∷ [])
-toldLeaves (told.Is false) answer = leaves 0 (put answer (0 ∷ []) ∷ [])
+toldLeaves (told.Is b) answer = leaves 0 (put answer (flagWord b ∷ []) ∷ [])
 toldLeaves (told.Refused number) answer = leaves number (answer ∷ [])
 
 abbrev pub infoLeaves : Info → List ℕ → Outcome
 infoLeaves (info.At index term) answer = leaves 0 (put answer (index .0 ∷ term .0 ∷ []) ∷ [])
 infoLeaves (info.Refused number) answer = leaves number (answer ∷ [])
 
--- The index, 1 if a term goes with it, the term. 01: "i with no term if i > last".
+-- The index, whether a term goes with it, the term. 01: "i with no term if i > last".
 abbrev pub byTermLeaves : ByTerm → List ℕ → Outcome
-byTermLeaves (byterm.Found index term) answer = leaves 0 (put answer (index .0 ∷ 1 ∷ term .0 ∷ []) ∷ [])
-byTermLeaves (byterm.Beyond index) answer = leaves 0 (put answer (index .0 ∷ 0 ∷ 0 ∷ []) ∷ [])
+byTermLeaves (byterm.Found index term) answer = leaves 0 (put answer (index .0 ∷ flagWord true ∷ term .0 ∷ []) ∷ [])
+byTermLeaves (byterm.Beyond index) answer = leaves 0 (put answer (index .0 ∷ flagWord false ∷ 0 ∷ []) ∷ [])
 byTermLeaves (byterm.Refused number) answer = leaves number (answer ∷ [])
 
 -- 01, `slice`: "A run is a part of whichever store holds it, settled or pending, never a copy." So an answer names the part: the store's number, the first index, the index after the last, the part's first word in the store, how many words.

@@ -1,7 +1,7 @@
 -- The exported calls of the inflight window. A reader must know: each is the call of crate inflights on the window whose state the slice `window` begins with; a slice too short for the state or for the value of the answer is refusal 1.
 -- The result is 0 or the refusal's number. A refusal leaves every slice as it was.
 use Prim.Native.Nat.{ℕ}
-use mathlib.Core.Bool.{cond}
+use mathlib.Core.Bool.{true, false, cond}
 use mathlib.Core.List.{List, [], _∷_}
 use lib.ListN.{length, getD}
 use lib.Dec.{eqb}
@@ -15,7 +15,7 @@ use Rattle.inflights.specs.declared.Fullness.{Fullness}
 use Rattle.inflights.specs.declared.Fullness.the-variants as fullness-is
 use Rattle.inflights.specs.declared.Counted.{Counted}
 use Rattle.inflights.specs.declared.Counted.the-variants as count-is
-use Rattle.exports.specs.Words.{singleLength, windowLength, put, Outcome, leaves, withStore, unlessShort}
+use Rattle.exports.specs.Words.{singleLength, windowLength, flagWord, put, Outcome, leaves, withStore, unlessShort}
 
 -- ---- The window's words
 
@@ -41,7 +41,7 @@ windowFrom words = record {
   deferred = deferredFrom (getD words 3 0) (getD words 4 0);
 }
 
--- The state of a window as words. That `windowFrom` reads back what these say is proved in proofs/WindowReadBack.antt.
+-- The state of a window as words. That `windowFrom` reads back what these say is proved in proofs/ReadBack.antt.
 abbrev pub windowWords : Inflights → List ℕ
 windowWords w = w .start ∷ w .count ∷ w .cap ∷ isDeferred (w .deferred) ∷ deferredCap (w .deferred) ∷ []
 
@@ -52,10 +52,10 @@ abbrev pub windowLeaves : Answer → List ℕ → Outcome
 windowLeaves (answer.Now w) window = leaves 0 (put window (windowWords w) ∷ [])
 windowLeaves (answer.Refused number) window = leaves number (window ∷ [])
 
--- Of `answer`: 1 for yes, 0 for no.
+-- Of `answer`: whether the window is full.
 abbrev pub fullnessLeaves : Fullness → List ℕ → Outcome
-fullnessLeaves fullness-is.Full answer = leaves 0 (put answer (1 ∷ []) ∷ [])
-fullnessLeaves fullness-is.NotFull answer = leaves 0 (put answer (0 ∷ []) ∷ [])
+fullnessLeaves fullness-is.Full answer = leaves 0 (put answer (flagWord true ∷ []) ∷ [])
+fullnessLeaves fullness-is.NotFull answer = leaves 0 (put answer (flagWord false ∷ []) ∷ [])
 fullnessLeaves (fullness-is.Refused number) answer = leaves number (answer ∷ [])
 
 -- Of `answer`: the count.

@@ -1,7 +1,7 @@
--- Words across the boundary. A reader must know: a lent slice of words begins with a log's state, or with the values of an answer; what stands behind them is never read and stays as it is.
--- The length of a state and of the values of an answer stands here, and nowhere else.
+-- Words across the boundary. A reader must know: a lent slice of words begins with a state, of a log or of a window, or with the values of an answer; what stands behind them is never read and stays as it is.
+-- The length of each state and of the values of each answer stands here, and nowhere else.
 use Prim.Native.Nat.{ℕ, _+_}
-use mathlib.Core.Bool.{cond}
+use mathlib.Core.Bool.{Bool, cond}
 use mathlib.Core.List.{List, [], _∷_}
 use lib.ListN.{length, getD}
 use lib.Dec.{ltb}
@@ -31,6 +31,10 @@ logFrom words = record {
 abbrev pub logWords : Log → List ℕ
 logWords l = l .start .0 ∷ l .startterm .0 ∷ l .offset .0 ∷ l .count ∷ l .committed .0 ∷ l .persisted .0 ∷ l .applied .0 ∷ []
 
+-- 01, Inflights: a window's start, count, cap, whether a smaller cap is deferred, and that cap. What each word says stands in WindowCalls.antt.
+abbrev pub windowLength : ℕ
+windowLength = 5
+
 -- The value of an answer that has one.
 abbrev pub singleLength : ℕ
 singleLength = 1
@@ -38,10 +42,6 @@ singleLength = 1
 -- The values of an answer that has two.
 abbrev pub pairLength : ℕ
 pairLength = 2
-
--- 01, Inflights: a window's start, count, cap, whether a smaller cap is deferred, and that cap. What each word says stands in WindowCalls.antt.
-abbrev pub windowLength : ℕ
-windowLength = 5
 
 -- The values of an answer that has three.
 abbrev pub tripleLength : ℕ
@@ -54,6 +54,10 @@ partLength = 5
 -- The values of an answer that lists ids: how many, and a word for each that there can be.
 abbrev pub idsLength : ℕ
 idsLength = idLimit + 1
+
+-- A yes or a no as a word.
+abbrev pub flagWord : Bool → ℕ
+flagWord b = cond b 1 0
 
 -- A slice with its first words replaced; every other word stays.
 abbrev pub put : List ℕ → List ℕ → List ℕ

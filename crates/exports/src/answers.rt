@@ -1,4 +1,5 @@
 // What the answers of the reading calls write into a lent slice: the values, nothing where they refuse.
+use crate::words::flag;
 use crate::words::store_pair;
 use raft_log::Bounds;
 use raft_log::ByTerm;
@@ -47,18 +48,13 @@ pub fn write_placed(answer: &mut [u64], said: Placed) -> u64
     }
 }
 
-// Yes is 1, no is 0.
 pub fn write_told(answer: &mut [u64], said: Told) -> u64
     requires { ⌜ singleLength ≤ length (now answer) ⌝ }
     ensures { λ r. ⌜ leaves r (now (answer .exit) ∷ []) ≡ toldLeaves said (now (answer .entry)) ⌝ }
 {
     match said {
         Told::Is(yes) => {
-            if yes {
-                answer[0] = 1;
-                return 0;
-            }
-            answer[0] = 0;
+            answer[0] = flag(yes);
             0
         }
         Told::Refused(number) => number,

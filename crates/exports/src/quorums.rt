@@ -5,6 +5,7 @@ use crate::rows::voter_set;
 use crate::words::IDS;
 use crate::words::PAIR;
 use crate::words::SINGLE;
+use crate::words::flag;
 use peer_tables::joint;
 use peer_tables::majority;
 use quorum::Committed;
@@ -21,14 +22,7 @@ ghost use Prim.Native.Nat.{_≤_};
 ghost use lib.ListN.{length};
 ghost use lib.Seq.{sets};
 ghost use Rattle.exports.specs.Words.{singleLength, pairLength, idsLength, leaves};
-ghost use Rattle.exports.specs.QuorumCalls.{flagWord, resultWord, committedLeaves, verdictLeaves, answerLeaves, idsLeaves, majorityIndexLeaves, majorityResultLeaves, jointIndexLeaves, jointResultLeaves, singletonLeaves, containsLeaves, jointIdsLeaves};
-
-// 1 for yes, 0 for no.
-fn flag(b: bool) -> u64
-    ensures { λ r. ⌜ r ≡ flagWord b ⌝ }
-{
-    if b { 1 } else { 0 }
-}
+ghost use Rattle.exports.specs.QuorumCalls.{resultWord, committedLeaves, verdictLeaves, answerLeaves, idsLeaves, majorityIndexLeaves, majorityResultLeaves, jointIndexLeaves, jointResultLeaves, singletonLeaves, containsLeaves, jointIdsLeaves};
 
 fn result_word(result: VoteResult) -> u64
     ensures { λ r. ⌜ r ≡ resultWord result ⌝ }

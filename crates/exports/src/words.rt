@@ -11,7 +11,7 @@ ghost use mathlib.Core.Path.{_≡_};
 ghost use mathlib.Core.List.{[], _∷_};
 ghost use Prim.Native.Nat.{_≤_};
 ghost use lib.ListN.{length};
-ghost use Rattle.exports.specs.Words.{logLength, singleLength, pairLength, logFrom, logWords, put, leaves};
+ghost use Rattle.exports.specs.Words.{logLength, singleLength, pairLength, logFrom, logWords, flagWord, put, leaves};
 ghost use Rattle.exports.specs.LogCalls.{appendedLeaves, extendedLeaves, changedLeaves, decidedLeaves};
 
 // Words of a log's state: start, start term, offset, count, committed, persisted, applied.
@@ -31,6 +31,13 @@ pub const PART: usize = 5;
 
 // Words of an answer that lists ids: how many, and a word for each that there can be.
 pub const IDS: usize = JointConfig::IDS + 1;
+
+// A yes or a no as a word: 1 for yes, 0 for no.
+pub fn flag(b: bool) -> u64
+    ensures { λ r. ⌜ r ≡ flagWord b ⌝ }
+{
+    if b { 1 } else { 0 }
+}
 
 // The log whose state a slice begins with.
 pub fn load(log: &[u64]) -> Log

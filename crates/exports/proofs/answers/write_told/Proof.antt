@@ -6,40 +6,32 @@ use Rattle.exports.proofs.answers.write_told.Tie as tie
 enum-known-said : tie.Need-enum-known-said
 enum-known-said c = search needs
 
+flag-requires : tie.Need-flag-requires
+flag-requires c κs = search needs
+
 slice-write-answer : tie.Need-slice-write-answer
 slice-write-answer c = search needs
+
+enum-known-said-2 : tie.Need-enum-known-said-2
+enum-known-said-2 c = search needs
 
 same-length : tie.Need-same-length
 same-length c = search needs
 
 returns : tie.Need-returns
-returns c = rw (c .before .before .said .given .1, c .if1 .taken)
-
-slice-write-answer-2 : tie.Need-slice-write-answer-2
-slice-write-answer-2 c = search needs
-
-enum-known-said-2 : tie.Need-enum-known-said-2
-enum-known-said-2 c = search needs
-
-same-length-2 : tie.Need-same-length-2
-same-length-2 c = search needs
+returns c = rw (c .before .before .said .given .1, c .flag .ensures)
 
 returns-2 : tie.Need-returns-2
-returns-2 c = rw (c .before .before .said .given .1, c .if1 .left)
-
-returns-3 : tie.Need-returns-3
-returns-3 c = rw (c .before .said2 .given .1)
+returns-2 c = rw (c .before .said2 .given .1)
 
 pub write-told-spec : {M : Type 1} → statement M
 write-told-spec =
     tie.close
     (tie.spec
     enum-known-said
+    flag-requires
     slice-write-answer
+    enum-known-said-2
     same-length
     returns
-    slice-write-answer-2
-    enum-known-said-2
-    same-length-2
-    returns-2
-    returns-3)
+    returns-2)

@@ -1,0 +1,8 @@
+// Replays a list of calls on the inflight window.
+use libc::STDOUT_FILENO;
+
+fn main() {
+    if 0 < lists::replay() {
+        io::write_all(STDOUT_FILENO, b"the last line has no end\n");
+    }
+}
