@@ -11,3 +11,4 @@ pub mod Fresh
 pub mod Nonzero
 pub mod Terms
 pub mod Frames
+pub mod Deciding
