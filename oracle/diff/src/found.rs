@@ -1,5 +1,5 @@
 //! What the crate does outside the domain of demand 2, where it differs from document 01: one example of each
-//! kind, the smallest that is met. `diff found` writes FOUND.md.
+//! kind, the smallest that is met. `diff found` writes the end of docs/DIFFERENCES.md.
 
 use crate::calls::{Call, Family, OUTGOING, PENDING, RING, ROWS, RUN, SETTLED, STATE, VOTERS};
 use crate::check::{Checked, Checker, Mismatch, Sheet};
@@ -73,13 +73,6 @@ pub fn write() -> Checked {
 }
 
 const HEAD: &str = "\
-# What the crate does where document 01 says otherwise
-
-Written by `diff found` from runs of the crate's own files: do not edit. The crate is compiled with overflow checks: where
-it \"panics: attempt to ..\", a build without them goes on with the wrapped number.
-
-On the domain of demand 2 nothing was found: the runs of run.sh compare every call there.
-
 ## Outside the domain
 
 One line for each call, refusal of ours and kind of answer of the crate: the smallest input met. A log is written `start

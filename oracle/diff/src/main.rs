@@ -5,7 +5,7 @@
 //!     diff call LINE                       one call, written as in a list, on all sides
 //!     diff list log|quorum|inflights DIR   writes the list of calls DIR/stdin and its answers DIR/stdout
 //!     diff replay DIR                      runs such a list on all sides
-//!     diff found                           writes FOUND.md to standard output
+//!     diff found                           writes the end of docs/DIFFERENCES.md to standard output
 //!
 //! Exit status: 0 all agree; 1 a mismatch; 2 bad usage or an unreadable file.
 
