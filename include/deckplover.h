@@ -107,6 +107,17 @@ uint64_t joint_contains(const uint64_t *incoming, size_t incoming_len, const uin
 #define DECKPLOVER_IDS 15
 uint64_t joint_ids(const uint64_t *incoming, size_t incoming_len, const uint64_t *outgoing, size_t outgoing_len,
                    uint64_t *answer, size_t answer_len);
+/* Empties both halves, whatever they are: neither is refused. answer: how many incoming ids are left, how many outgoing
+ * ones (both 0) */
+uint64_t joint_clear(const uint64_t *incoming, size_t incoming_len, const uint64_t *outgoing, size_t outgoing_len,
+                     uint64_t *answer, size_t answer_len);
+/* These write nothing and return 0, or 12 where every question about the same would be refused by it: */
+/* over 7 voters, or a repeated id */
+uint64_t voters_checked(const uint64_t *voters, size_t voters_len);
+/* that of either half */
+uint64_t joint_checked(const uint64_t *incoming, size_t incoming_len, const uint64_t *outgoing, size_t outgoing_len);
+/* over 64 rows, or a repeated id */
+uint64_t rows_checked(const uint64_t *rows, size_t rows_len);
 
 /* The leader's commit step: writes the log. answer: 1 for yes, 0 for no */
 uint64_t leader_maybe_commit(uint64_t *log, size_t log_len, const uint64_t *settled, size_t settled_len,

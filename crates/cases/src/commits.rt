@@ -1,13 +1,14 @@
-// The leader's commit step, from log A: the records 1 to 5 are of terms 1,1,2,2,3, and committed is 2.
-use crate::acking;
-use crate::half_broken;
+// The leader's commit step: of log A it commits only records of the leader's own term, and the log is looked at before the configuration.
+use crate::log::later;
 use crate::log::log_a;
 use crate::log::pending_a;
 use crate::log::settled_a;
-use crate::number;
-use crate::refused;
-use crate::text;
-use crate::voters;
+use crate::print::number;
+use crate::print::refusal;
+use crate::print::text;
+use crate::quorums::acking;
+use crate::quorums::half_broken;
+use crate::quorums::voters;
 use leader::commit_found;
 use peer_tables::joint::committed_index;
 use quorum::joint::JointConfig;
@@ -18,12 +19,11 @@ use units::Term;
 fn decided(answer: Decided) {
     match answer {
         Decided::Yes(log) => {
-            text(b"yes, committed ");
-            number(log.committed.0);
+            number(b"yes, committed ", log.committed.0);
             text(b"\n");
         }
         Decided::No => text(b"no\n"),
-        Decided::Refused(n) => refused(n),
+        Decided::Refused(n) => refusal(n),
     }
 }
 
@@ -41,18 +41,18 @@ fn broken_case(log: Log) {
 }
 
 pub fn leader_cases() {
-    text(b"leader of term 2, acknowledged 5,4,3: ");
+    text(b"   from A, leader of term 2, three voters acknowledged 5,4,3: ");
     leader_case(2, &[5, 4, 3]);
-    text(b"leader of term 3, acknowledged 5,4,3: ");
+    text(b"   from A, leader of term 3, three voters acknowledged 5,4,3: ");
     leader_case(3, &[5, 4, 3]);
-    text(b"leader of term 3, acknowledged 5,5,3: ");
+    text(b"   from A, leader of term 3, three voters acknowledged 5,5,3: ");
     leader_case(3, &[5, 5, 3]);
-    text(b"leader of term 1, acknowledged 5,2,2: ");
+    text(b"   from A, leader of term 1, three voters acknowledged 5,2,2: ");
     leader_case(1, &[5, 2, 2]);
-    text(b"leader of term 0, acknowledged 9,9,9: ");
+    text(b"   from A, leader of term 0, three voters acknowledged 9,9,9: ");
     leader_case(0, &[9, 9, 9]);
-    text(b"leader with a broken half: ");
-    broken_case(crate::log::later());
-    text(b"leader with a broken half and a broken log: ");
+    text(b"   a broken half: ");
+    broken_case(later());
+    text(b"   a broken half and a broken log: ");
     broken_case(log_a());
 }

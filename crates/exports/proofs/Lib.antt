@@ -4,4 +4,3 @@ pub mod Results
 pub mod Parts
 pub mod Laying
 pub mod Standing
-pub mod Unique

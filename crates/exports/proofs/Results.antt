@@ -6,7 +6,7 @@ use Prim.Native.Nat.{ℕ, _-_, min}
 use native.Mathlib.Omega.{arith}
 use lib.Dec.{eqb, leb, ltb}
 use lib.ListN.{length}
-use Rattle.units.specs.Refusals.{fineOr, bothChecks}
+use Rattle.units.specs.Refusals.{refusalOf, fineOr, bothChecks}
 use Rattle.units.specs.declared.Check.{Check}
 use Rattle.units.specs.declared.Check.the-variants as check
 use Rattle.raft_log.specs.Words.{runCount}
@@ -61,7 +61,7 @@ use Rattle.exports.specs.Words.{logFrom, Outcome, leaves, withStore, unl
 use Rattle.exports.specs.LogCalls.{appendedLeaves, extendedLeaves, changedLeaves, decidedLeaves, newLeaves, maybeAppendLeaves, appendLeaves, commitToLeaves, maybeCommitLeaves, appliedToLeaves, maybePersistLeaves, stableEntriesLeaves}
 use Rattle.exports.specs.Reads.{lookedLeaves, placedLeaves, toldLeaves, infoLeaves, byTermLeaves, boundsLeaves, termLeaves, firstIndexLeaves, lastIndexLeaves, lastTermLeaves, commitInfoLeaves, isUpToDateLeaves, findConflictByTermLeaves, sliceLeaves, entriesLeaves, nextEntriesSinceLeaves, hasNextEntriesSinceLeaves, Sound}
 use Rattle.exports.specs.Rows.{peersFrom, configFrom}
-use Rattle.exports.specs.QuorumCalls.{committedLeaves, verdictLeaves, answerLeaves, idsLeaves, majorityIndexLeaves, majorityResultLeaves, jointIndexLeaves, jointResultLeaves, singletonLeaves, containsLeaves, jointIdsLeaves, leaderCommitLeaves}
+use Rattle.exports.specs.QuorumCalls.{committedLeaves, verdictLeaves, answerLeaves, idsLeaves, majorityIndexLeaves, majorityResultLeaves, jointIndexLeaves, jointResultLeaves, singletonLeaves, containsLeaves, jointIdsLeaves, clearLeaves, votersRefusal, jointRefusal, rowsRefusal, leaderCommitLeaves}
 use Rattle.exports.specs.WindowCalls.{windowFrom, windowLeaves, fullnessLeaves, countedLeaves, changes, newLeaves as windowNewLeaves, setCapLeaves, addLeaves, freeToLeaves, freeFirstOneLeaves, resetLeaves, maybeFreeBufferLeaves, fullLeaves, countLeaves}
 use Rattle.exports.proofs.Lengths.{by-length}
 use Rattle.exports.proofs.Parts.{slice-sound, entries-sound, next-sound}
@@ -357,6 +357,24 @@ module _ (incoming outgoing answer : List ℕ) where
 
   pub joint-ids-tells : Tells check.Refused (idsAnswer (configFrom incoming outgoing) .check) (answer ∷ []) (jointIdsLeaves incoming outgoing answer)
   joint-ids-tells = behind _ _ (listed-tells answer _ _ (config-numbered (configFrom incoming outgoing)))
+
+  -- Of no configuration is `clear` refused.
+  pub joint-clear-tells : Tells check.Refused check.Fine (answer ∷ []) (clearLeaves incoming outgoing answer)
+  joint-clear-tells = behind _ _ (answers (λ n e. cc))
+
+-- The checks write nothing.
+check-tells : (c : Check) → Numbered c → Tells check.Refused c [] (leaves (refusalOf c) [])
+check-tells check.Fine g = answers (λ n e. cc)
+check-tells (check.Refused m) g = refuses (g m refl)
+
+pub voters-checked-tells : (voters : List ℕ) → Tells check.Refused (votersCheck (setOf voters)) [] (leaves (votersRefusal voters) [])
+voters-checked-tells voters = check-tells _ (voters-numbered (setOf voters))
+
+pub joint-checked-tells : (incoming outgoing : List ℕ) → Tells check.Refused (configCheck (configFrom incoming outgoing)) [] (leaves (jointRefusal incoming outgoing) [])
+joint-checked-tells incoming outgoing = check-tells _ (config-numbered (configFrom incoming outgoing))
+
+pub rows-checked-tells : (rows : List ℕ) → Tells check.Refused (rowsCheck (peersFrom rows)) [] (leaves (rowsRefusal rows) [])
+rows-checked-tells rows = check-tells _ (rows-numbered (peersFrom rows))
 
 module _ (log settled pending : List ℕ) (term : ℕ) (incoming outgoing rows answer : List ℕ) where
   -- The step on the index that was found, by the check of the sets and rows.

@@ -7,17 +7,19 @@ use borrow.Author.Tests.{lt-leb, leb-true, ltb-true, ltb-false}
 use native.Mathlib.Omega.{arith}
 use lib.ListN.{length}
 use lib.Dec.{leb, eqb}
-use Rattle.units.specs.Refusals.{brokenSet, bothChecks}
+use Rattle.units.specs.Refusals.{brokenSet, refusalOf, bothChecks}
 use Rattle.units.specs.declared.Check.{Check}
 use Rattle.units.specs.declared.Check.the-variants as check
 use Rattle.quorum.specs.Limits.{voterLimit, rowLimit}
 use Rattle.quorum.specs.Ids.{has, distinct, fineIf}
 use Rattle.quorum.specs.Rows.{rowsCheck}
-use Rattle.quorum.specs.Voters.{votersOf, votersCheck, setOf, madeIf, made}
+use Rattle.quorum.specs.Voters.{votersOf, votersCheck, setOf, noVoters, madeIf, made}
 use Rattle.quorum.specs.Votes.{resultOf, jointResult}
 use Rattle.quorum.specs.Half.{halfIndex, joined}
 use Rattle.quorum.specs.Majority.{indexUnless, resultUnless, acksOf, votesOf, committedIndex, voteResult}
-use Rattle.quorum.specs.Joint.{configCheck, jointIndex, jointVerdict, isUnless, singleton, containsOf, listedUnless, bothIds, idsAnswer}
+use Rattle.quorum.specs.Joint.{oneSet, configCheck, jointIndex, jointVerdict, isUnless, singleton, containsOf, listedUnless, bothIds, idsAnswer}
+use Rattle.quorum.specs.declared.half.Half.{Half}
+use Rattle.quorum.specs.declared.Committed.{Committed}
 use Rattle.quorum.specs.declared.Committed.the-variants as committed
 use Rattle.quorum.specs.declared.Verdict.the-variants as verdict
 use Rattle.quorum.specs.declared.majority.Made.{Made}
@@ -165,3 +167,25 @@ module _ {peers : List Peer} {t : Table} (m : Holds peers t) where
     joint-verdict-asked =
         asked (jointVerdict handed) (verdict.Refused brokenSet) (λ many h. rw (after-sets (sound (handed .incoming)) (sound (handed .outgoing)) (rowsCheck many) (rows-refused many h))) m
         ∙ joint-verdict-alike s peers
+
+-- ---- a question that asks nobody: only the rows can be refused
+
+-- The number by which an index is refused, 0 where it is not.
+abbrev pub refusedBy : Committed → ℕ
+refusedBy (committed.At index free) = 0
+refusedBy (committed.Refused n) = n
+
+by-rows : (k : Check) (h : Half) → refusedBy (indexUnless k h) ≡ refusalOf k
+by-rows check.Fine h = refl
+by-rows (check.Refused n) h = refl
+
+nobody-refused : (peers : List Peer) → refusedBy (jointIndex (oneSet noVoters) peers) ≡ refusalOf (rowsCheck peers)
+unfolding jointIndex distinct
+nobody-refused peers = by-rows (rowsCheck peers) _
+
+module _ {peers : List Peer} {t : Table} (m : Holds peers t) where
+  pub nobody-asked : {none : Voters} {config : JointConfig} {said : Committed} → none ≡ noVoters → config ≡ oneSet none → said ≡ tableJointIndex config t → refusedBy said ≡ refusalOf (rowsCheck peers)
+  nobody-asked {none} {config} empty new answered =
+      let itself : config ≡ oneSet noVoters = new ∙ ap oneSet empty in
+      let stands : StandsFor configCheck (oneSet noVoters) config = record { refused-alike = ap configCheck itself; else-same = λ fine. itself } in
+      ap refusedBy (answered ∙ joint-index-asked m stands) ∙ nobody-refused peers

@@ -1,12 +1,14 @@
--- The exported questions of crate quorum, and the leader's commit step. A reader must know: each is the call below on the sets and rows that the words say (specs/Rows.antt), and hands its refusal on; a slice too short for the answer, or for a log's state, is refusal 1 and comes first.
+-- The exported questions of crate quorum, and the leader's commit step. A reader must know: each is the call below on the sets and rows that the words say (specs/Rows.antt), and hands its refusal on; a slice too short for the answer, or for a log's state, is refusal 1 and comes first. The three checks write nothing, so that their result is all that they promise.
 -- 12 needs no word of its own: a set of over 7 or repeated ids, and over 64 or repeated rows, are refused by the call below.
 use Prim.Native.Nat.{ℕ}
 use mathlib.Core.List.{List, [], _∷_}
+use Rattle.units.specs.Refusals.{refusalOf}
 use Rattle.units.specs.declared.Check.{Check}
 use Rattle.units.specs.declared.Check.the-variants as check
-use Rattle.quorum.specs.Voters.{setOf}
+use Rattle.quorum.specs.Rows.{rowsCheck}
+use Rattle.quorum.specs.Voters.{setOf, noVoters, votersCheck}
 use Rattle.quorum.specs.Majority.{committedIndex, voteResult}
-use Rattle.quorum.specs.Joint.{jointIndex, jointVerdict, singleton, containsOf, idsAnswer}
+use Rattle.quorum.specs.Joint.{oneSet, configCheck, jointIndex, jointVerdict, singleton, containsOf, idsAnswer}
 use Rattle.quorum.specs.declared.Committed.{Committed}
 use Rattle.quorum.specs.declared.Committed.the-variants as committed
 use Rattle.quorum.specs.declared.Verdict.{Verdict}
@@ -16,6 +18,7 @@ use Rattle.quorum.specs.declared.VoteResult.the-variants as result
 use Rattle.quorum.specs.declared.joint.Answer.{Answer}
 use Rattle.quorum.specs.declared.joint.Answer.the-variants as answer
 use Rattle.quorum.specs.declared.joint.Ids.{Ids}
+use Rattle.quorum.specs.declared.joint.JointConfig.{JointConfig}
 use Rattle.leader.specs.Leader.{leaderCommit}
 use Rattle.exports.specs.Words.{logLength, singleLength, pairLength, idsLength, logFrom, flagWord, put, Outcome, leaves, unlessShort}
 use Rattle.exports.specs.LogCalls.{decidedLeaves}
@@ -27,53 +30,84 @@ resultWord result.Pending = 0
 resultWord result.Lost = 1
 resultWord result.Won = 2
 
--- What each answer leaves of `answer`: the index, and whether nobody had a say in it;
+-- What an answer with an index leaves of `answer`: the index, and whether nobody had a say in it; or the refusal's number as the result.
 abbrev pub committedLeaves : Committed → List ℕ → Outcome
 committedLeaves (committed.At index free) values = leaves 0 (put values (index .0 ∷ flagWord free ∷ []) ∷ [])
 committedLeaves (committed.Refused number) values = leaves number (values ∷ [])
 
--- how the vote stands;
+-- What the answer of a vote leaves of `answer`: how the vote stands.
 abbrev pub verdictLeaves : Verdict → List ℕ → Outcome
 verdictLeaves (verdict.Stands r) values = leaves 0 (put values (resultWord r ∷ []) ∷ [])
 verdictLeaves (verdict.Refused number) values = leaves number (values ∷ [])
 
--- yes or no;
+-- What a yes-or-no answer leaves of `answer`.
 abbrev pub answerLeaves : Answer → List ℕ → Outcome
 answerLeaves (answer.Is b) values = leaves 0 (put values (flagWord b ∷ []) ∷ [])
 answerLeaves (answer.Refused number) values = leaves number (values ∷ [])
 
--- how many ids, then all the words of their list, which are 0 behind the last id.
+-- What a list of ids leaves of `answer`: how many ids, then all the words of their list, which are 0 behind the last id.
 abbrev pub listedLeaves : Check → ℕ → List ℕ → List ℕ → Outcome
 listedLeaves check.Fine count ids values = leaves 0 (put values (count ∷ ids) ∷ [])
 listedLeaves (check.Refused number) count ids values = leaves number (values ∷ [])
 
+-- What the answer of `ids` leaves of `answer`.
 abbrev pub idsLeaves : Ids → List ℕ → Outcome
 idsLeaves said values = listedLeaves (said .check) (said .count) (said .ids) values
 
--- THE PROMISES of the questions: what each leaves of `answer`.
+-- What the sizes of a configuration leave of `answer`: how many ids it has incoming, and how many outgoing.
+abbrev pub sizesLeaves : JointConfig → List ℕ → Outcome
+sizesLeaves config values = leaves 0 (put values (config .incoming .count ∷ config .outgoing .count ∷ []) ∷ [])
+
+-- THE PROMISES of the questions: what each leaves of `answer`, here `values`. Of one set:
 module _ (voters rows values : List ℕ) where
+  -- `majority_committed_index`.
   abbrev pub majorityIndexLeaves : Outcome
   majorityIndexLeaves = unlessShort values pairLength (values ∷ []) (committedLeaves (committedIndex (setOf voters) (peersFrom rows)) values)
 
+  -- `majority_vote_result`.
   abbrev pub majorityResultLeaves : Outcome
   majorityResultLeaves = unlessShort values singleLength (values ∷ []) (verdictLeaves (voteResult (setOf voters) (peersFrom rows)) values)
 
+-- Of both halves, by the rows:
 module _ (incoming outgoing rows values : List ℕ) where
+  -- `joint_committed_index`.
   abbrev pub jointIndexLeaves : Outcome
   jointIndexLeaves = unlessShort values pairLength (values ∷ []) (committedLeaves (jointIndex (configFrom incoming outgoing) (peersFrom rows)) values)
 
+  -- `joint_vote_result`.
   abbrev pub jointResultLeaves : Outcome
   jointResultLeaves = unlessShort values singleLength (values ∷ []) (verdictLeaves (jointVerdict (configFrom incoming outgoing) (peersFrom rows)) values)
 
+-- And of both halves alone:
 module _ (incoming outgoing : List ℕ) where
+  -- `joint_is_singleton`.
   abbrev pub singletonLeaves : List ℕ → Outcome
   singletonLeaves values = unlessShort values singleLength (values ∷ []) (answerLeaves (singleton (configFrom incoming outgoing)) values)
 
+  -- `joint_contains`.
   abbrev pub containsLeaves : ℕ → List ℕ → Outcome
   containsLeaves id values = unlessShort values singleLength (values ∷ []) (answerLeaves (containsOf (configFrom incoming outgoing) id) values)
 
+  -- `joint_ids`.
   abbrev pub jointIdsLeaves : List ℕ → Outcome
   jointIdsLeaves values = unlessShort values idsLength (values ∷ []) (idsLeaves (idsAnswer (configFrom incoming outgoing)) values)
+
+  -- 01, Joint: "`is_singleton`, `contains`, `clear` and the ids of both". What crate quorum promises of `clear` is the same of every configuration, so nothing of the halves is read and none is refused.
+  abbrev pub clearLeaves : List ℕ → Outcome
+  clearLeaves values = unlessShort values pairLength (values ∷ []) (sizesLeaves (oneSet noVoters) values)
+
+-- THE PROMISES of the checks: the refusal of each, 0 where it finds nothing wrong.
+-- 01, refusal 12: "over 7 voters, a repeated voter id";
+abbrev pub votersRefusal : List ℕ → ℕ
+votersRefusal voters = refusalOf (votersCheck (setOf voters))
+
+-- that of either half;
+abbrev pub jointRefusal : List ℕ → List ℕ → ℕ
+jointRefusal incoming outgoing = refusalOf (configCheck (configFrom incoming outgoing))
+
+-- "over 64 rows, a repeated row id".
+abbrev pub rowsRefusal : List ℕ → ℕ
+rowsRefusal rows = refusalOf (rowsCheck (peersFrom rows))
 
 -- THE PROMISE of `leader_maybe_commit`: what it leaves of `log` and `answer`.
 abbrev pub leaderCommitLeaves : List ℕ → List ℕ → List ℕ → ℕ → List ℕ → List ℕ → List ℕ → List ℕ → Outcome

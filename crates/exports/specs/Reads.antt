@@ -24,24 +24,27 @@ use Rattle.raft_log.specs.declared.Bounds.{Bounds}
 use Rattle.raft_log.specs.declared.Bounds.the-variants as bounds
 use Rattle.exports.specs.Words.{logLength, singleLength, pairLength, tripleLength, partLength, logFrom, flagWord, put, Outcome, leaves, unlessShort}
 
--- What each answer leaves of `answer`: its values, or the refusal's number as the result.
+-- What an answer with a term leaves of `answer`: the term; or the refusal's number as the result.
 abbrev pub lookedLeaves : Looked → List ℕ → Outcome
 lookedLeaves (looked.At term) answer = leaves 0 (put answer (term .0 ∷ []) ∷ [])
 lookedLeaves (looked.Refused number) answer = leaves number (answer ∷ [])
 
+-- What an answer with an index leaves of `answer`.
 abbrev pub placedLeaves : Placed → List ℕ → Outcome
 placedLeaves (placed.At index) answer = leaves 0 (put answer (index .0 ∷ []) ∷ [])
 placedLeaves (placed.Refused number) answer = leaves number (answer ∷ [])
 
+-- What an answer with a yes or a no leaves of `answer`.
 abbrev pub toldLeaves : Told → List ℕ → Outcome
 toldLeaves (told.Is b) answer = leaves 0 (put answer (flagWord b ∷ []) ∷ [])
 toldLeaves (told.Refused number) answer = leaves number (answer ∷ [])
 
+-- What an answer with an index and a term leaves of `answer`.
 abbrev pub infoLeaves : Info → List ℕ → Outcome
 infoLeaves (info.At index term) answer = leaves 0 (put answer (index .0 ∷ term .0 ∷ []) ∷ [])
 infoLeaves (info.Refused number) answer = leaves number (answer ∷ [])
 
--- The index, whether a term goes with it, the term. 01: "i with no term if i > last".
+-- What the answer of `find_conflict_by_term` leaves of `answer`: the index, whether a term goes with it, the term. 01: "i with no term if i > last".
 abbrev pub byTermLeaves : ByTerm → List ℕ → Outcome
 byTermLeaves (byterm.Found index term) answer = leaves 0 (put answer (index .0 ∷ flagWord true ∷ term .0 ∷ []) ∷ [])
 byTermLeaves (byterm.Beyond index) answer = leaves 0 (put answer (index .0 ∷ flagWord false ∷ 0 ∷ []) ∷ [])
@@ -52,13 +55,15 @@ byTermLeaves (byterm.Refused number) answer = leaves number (answer ∷ [])
 abbrev pub partWords : ℕ → ℕ → ℕ → ℕ → List ℕ
 partWords store first low high = store ∷ low ∷ high ∷ (low - first) * recordWords ∷ (high - low) * recordWords ∷ []
 
+-- The number of the settled store.
 abbrev pub inSettled : ℕ
 inSettled = 1
 
+-- The number of the pending store; 0 is neither.
 abbrev pub inPending : ℕ
 inPending = 2
 
--- 01, "State and stores": "settled holds indices start+1 to offset-1, pending holds offset to last".
+-- What bounds leave of `answer`. 01, "State and stores": "settled holds indices start+1 to offset-1, pending holds offset to last".
 abbrev pub boundsLeaves : Bounds → Log → List ℕ → Outcome
 boundsLeaves bounds.Empty l answer = leaves 0 (put answer (0 ∷ 0 ∷ 0 ∷ 0 ∷ 0 ∷ []) ∷ [])
 boundsLeaves (bounds.Settled low high) l answer = leaves 0 (put answer (partWords inSettled (l .start .0 + 1) (low .0) (high .0)) ∷ [])
@@ -69,45 +74,55 @@ boundsLeaves (bounds.Refused number) l answer = leaves number (answer ∷ [])
 abbrev pub reading : List ℕ → ℕ → List ℕ → Outcome → Outcome
 reading log words answer out = unlessShort log logLength (answer ∷ []) (unlessShort answer words (answer ∷ []) out)
 
--- THE PROMISES of `log_term`, `log_first_index`, `log_last_index`, `log_last_term`, `log_commit_info`, `log_is_up_to_date`, `log_find_conflict_by_term`: what each leaves of `answer`.
+-- THE PROMISE of `log_term`: what it leaves of `answer`. So for the others below.
 abbrev pub termLeaves : List ℕ → List ℕ → List ℕ → ℕ → List ℕ → Outcome
 termLeaves log settled pending i answer = reading log singleLength answer (lookedLeaves (lookTerm (logFrom log) settled pending i) answer)
 
+-- THE PROMISE of `log_first_index`.
 abbrev pub firstIndexLeaves : List ℕ → List ℕ → List ℕ → List ℕ → Outcome
 firstIndexLeaves log settled pending answer = reading log singleLength answer (placedLeaves (lookFirst (logFrom log) settled pending) answer)
 
+-- THE PROMISE of `log_last_index`.
 abbrev pub lastIndexLeaves : List ℕ → List ℕ → List ℕ → List ℕ → Outcome
 lastIndexLeaves log settled pending answer = reading log singleLength answer (placedLeaves (lookLast (logFrom log) settled pending) answer)
 
+-- THE PROMISE of `log_last_term`.
 abbrev pub lastTermLeaves : List ℕ → List ℕ → List ℕ → List ℕ → Outcome
 lastTermLeaves log settled pending answer = reading log singleLength answer (lookedLeaves (lookLastTerm (logFrom log) settled pending) answer)
 
+-- THE PROMISE of `log_commit_info`.
 abbrev pub commitInfoLeaves : List ℕ → List ℕ → List ℕ → List ℕ → Outcome
 commitInfoLeaves log settled pending answer = reading log pairLength answer (infoLeaves (lookCommit (logFrom log) settled pending) answer)
 
+-- THE PROMISE of `log_is_up_to_date`.
 abbrev pub isUpToDateLeaves : List ℕ → List ℕ → List ℕ → ℕ → ℕ → List ℕ → Outcome
 isUpToDateLeaves log settled pending i t answer = reading log singleLength answer (toldLeaves (lookUpToDate (logFrom log) settled pending i t) answer)
 
+-- THE PROMISE of `log_find_conflict_by_term`.
 abbrev pub findConflictByTermLeaves : List ℕ → List ℕ → List ℕ → ℕ → ℕ → List ℕ → Outcome
 findConflictByTermLeaves log settled pending i t answer = reading log tripleLength answer (byTermLeaves (byTerm (logFrom log) settled pending i t) answer)
 
--- THE PROMISES of `log_slice`, `log_entries`, `log_next_entries_since` and `log_has_next_entries_since`.
+-- THE PROMISE of `log_slice`.
 abbrev pub sliceLeaves : List ℕ → List ℕ → List ℕ → ℕ → ℕ → List ℕ → Outcome
 sliceLeaves log settled pending low high answer = reading log partLength answer (boundsLeaves (sliceBounds (logFrom log) settled pending low high) (logFrom log) answer)
 
+-- THE PROMISE of `log_entries`.
 abbrev pub entriesLeaves : List ℕ → List ℕ → List ℕ → ℕ → List ℕ → Outcome
 entriesLeaves log settled pending i answer = reading log partLength answer (boundsLeaves (entriesBounds (logFrom log) settled pending i) (logFrom log) answer)
 
+-- THE PROMISE of `log_next_entries_since`.
 abbrev pub nextEntriesSinceLeaves : List ℕ → List ℕ → List ℕ → ℕ → List ℕ → Outcome
 nextEntriesSinceLeaves log settled pending s answer = reading log partLength answer (boundsLeaves (nextBounds (logFrom log) settled pending s) (logFrom log) answer)
 
+-- THE PROMISE of `log_has_next_entries_since`.
 abbrev pub hasNextEntriesSinceLeaves : List ℕ → List ℕ → List ℕ → ℕ → List ℕ → Outcome
 hasNextEntriesSinceLeaves log settled pending s answer = reading log singleLength answer (toldLeaves (hasNextSince (logFrom log) settled pending s) answer)
 
--- What a caller finds by the five words: so many words of the store that the first one names, from a word on.
+-- The store that a number names.
 abbrev pub storeAt : ℕ → List ℕ → List ℕ → List ℕ
 storeAt number settled pending = cond (eqb number inSettled) settled pending
 
+-- What a caller finds by the five words: so many words of the store that the first one names, from a word on.
 abbrev pub partAt : List ℕ → List ℕ → List ℕ → List ℕ
 partAt answer settled pending = take (getD answer 4 0) (drop (getD answer 3 0) (storeAt (getD answer 0 0) settled pending))
 

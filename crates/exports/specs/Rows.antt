@@ -33,6 +33,7 @@ ackFrom known index = cond (eqb known 0) ack.Missing (ack.At (indexOf index))
 abbrev pub voteFrom : ℕ → Vote
 voteFrom said = cond (eqb said 1) vote.Yes (cond (eqb said 2) vote.No vote.Missing)
 
+-- The row of four words: its id, whether an acknowledgement is there, that, the vote.
 abbrev pub peerFrom : ℕ → ℕ → ℕ → ℕ → Peer
 peerFrom id known index said = record { id = id; ack = ackFrom known index; vote = voteFrom said }
 

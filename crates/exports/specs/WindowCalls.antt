@@ -23,11 +23,12 @@ use Rattle.exports.specs.Words.{singleLength, windowLength, flagWord, pu
 unfoldable pub deferredFrom : ℕ → ℕ → Deferred
 deferredFrom is cap = cond (eqb is 0) deferred.Nothing (deferred.Cap cap)
 
--- The two words that say it: 1 and the cap, else 0 and 0.
+-- The first of the two words that say it: 1, else 0.
 abbrev pub isDeferred : Deferred → ℕ
 isDeferred deferred.Nothing = 0
 isDeferred (deferred.Cap cap) = 1
 
+-- The second: the cap, else 0.
 abbrev pub deferredCap : Deferred → ℕ
 deferredCap deferred.Nothing = 0
 deferredCap (deferred.Cap cap) = cap
@@ -69,25 +70,31 @@ countedLeaves (count-is.Refused number) answer = leaves number (answer ∷ [])
 abbrev pub changes : List ℕ → Answer → Outcome
 changes window said = unlessShort window windowLength (window ∷ []) (windowLeaves said window)
 
+-- `inflights_new`, which does not read the words of `window`.
 abbrev pub newLeaves : ℕ → List ℕ → List ℕ → Outcome
 newLeaves cap ring window = changes window (made cap (length ring))
 
+-- `inflights_set_cap`.
 abbrev pub setCapLeaves : List ℕ → List ℕ → ℕ → Outcome
 setCapLeaves window ring cap = changes window (capped (windowFrom window) (length ring) cap)
 
+-- `inflights_free_to`.
 abbrev pub freeToLeaves : List ℕ → List ℕ → ℕ → Outcome
 freeToLeaves window ring to = changes window (freedTo (windowFrom window) ring to)
 
+-- `inflights_free_first_one`.
 abbrev pub freeFirstOneLeaves : List ℕ → List ℕ → Outcome
 freeFirstOneLeaves window ring = changes window (freedFirst (windowFrom window) ring)
 
+-- `inflights_reset`.
 abbrev pub resetLeaves : List ℕ → List ℕ → Outcome
 resetLeaves window ring = changes window (cleared (windowFrom window) (length ring))
 
+-- `inflights_maybe_free_buffer`.
 abbrev pub maybeFreeBufferLeaves : List ℕ → List ℕ → Outcome
 maybeFreeBufferLeaves window ring = changes window (rewound (windowFrom window) (length ring))
 
--- Of `ring` and `window`. 01: "Only `add` writes a word."
+-- `inflights_add`: of `ring` and `window`. 01: "Only `add` writes a word."
 abbrev pub addLeaves : List ℕ → List ℕ → ℕ → Outcome
 addLeaves window ring inflight =
     unlessShort window windowLength (ring ∷ window ∷ [])
@@ -99,8 +106,10 @@ reads window answer out =
     unlessShort window windowLength (answer ∷ [])
     (unlessShort answer singleLength (answer ∷ []) out)
 
+-- `inflights_full`.
 abbrev pub fullLeaves : List ℕ → List ℕ → List ℕ → Outcome
 fullLeaves window ring answer = reads window answer (fullnessLeaves (fullness (windowFrom window) (length ring)) answer)
 
+-- `inflights_count`.
 abbrev pub countLeaves : List ℕ → List ℕ → List ℕ → Outcome
 countLeaves window ring answer = reads window answer (countedLeaves (counted (windowFrom window) (length ring)) answer)

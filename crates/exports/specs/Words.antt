@@ -68,6 +68,7 @@ pub record Outcome : Type 0 where
   pub result : ℕ
   pub slices : List (List ℕ)
 
+-- The same, by its two parts.
 abbrev pub leaves : ℕ → List (List ℕ) → Outcome
 leaves result slices = record { result = result; slices = slices }
 

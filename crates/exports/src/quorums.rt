@@ -1,4 +1,5 @@
 // The questions of crate quorum over words. Each tests that the answer has room, reads the sets and the rows, asks, and writes last.
+// The checks of sets and rows are their result alone, and write nothing.
 use crate::rows::config;
 use crate::rows::table;
 use crate::rows::voter_set;
@@ -6,6 +7,7 @@ use crate::words::IDS;
 use crate::words::PAIR;
 use crate::words::SINGLE;
 use crate::words::flag;
+use crate::words::store_pair;
 use peer_tables::joint;
 use peer_tables::majority;
 use quorum::Committed;
@@ -14,6 +16,7 @@ use quorum::VoteResult;
 use quorum::joint::Answer;
 use quorum::joint::Ids;
 use quorum::joint::JointConfig;
+use quorum::majority::Voters;
 use units::Check;
 use units::refusal::BROKEN_STATE;
 ghost use mathlib.Core.Path.{_≡_};
@@ -22,7 +25,7 @@ ghost use Prim.Native.Nat.{_≤_};
 ghost use lib.ListN.{length};
 ghost use lib.Seq.{sets};
 ghost use Rattle.exports.specs.Words.{singleLength, pairLength, idsLength, leaves};
-ghost use Rattle.exports.specs.QuorumCalls.{resultWord, committedLeaves, verdictLeaves, answerLeaves, idsLeaves, majorityIndexLeaves, majorityResultLeaves, jointIndexLeaves, jointResultLeaves, singletonLeaves, containsLeaves, jointIdsLeaves};
+ghost use Rattle.exports.specs.QuorumCalls.{resultWord, committedLeaves, verdictLeaves, answerLeaves, idsLeaves, sizesLeaves, majorityIndexLeaves, majorityResultLeaves, jointIndexLeaves, jointResultLeaves, singletonLeaves, containsLeaves, jointIdsLeaves, clearLeaves, votersRefusal, jointRefusal, rowsRefusal};
 
 fn result_word(result: VoteResult) -> u64
     ensures { λ r. ⌜ r ≡ resultWord result ⌝ }
@@ -98,6 +101,16 @@ fn write_ids(answer: &mut [u64], said: Ids) -> u64
     let ids = said.ids;
     answer[0] = said.count as u64;
     store_ids(answer, ids);
+    0
+}
+
+fn write_sizes(answer: &mut [u64], config: JointConfig) -> u64
+    requires { ⌜ pairLength ≤ length (now answer) ⌝ }
+    ensures { λ r. ⌜ leaves r (now (answer .exit) ∷ []) ≡ sizesLeaves config (now (answer .entry)) ⌝ }
+{
+    let incoming = config.incoming;
+    let outgoing = config.outgoing;
+    store_pair(answer, incoming.count as u64, outgoing.count as u64);
     0
 }
 
@@ -198,4 +211,45 @@ pub extern "C" fn joint_ids(incoming: &[u64], outgoing: &[u64], answer: &mut [u6
     }
     let said = config(incoming, outgoing).ids();
     write_ids(answer, said)
+}
+
+// No ids in either half, whatever they were. Values: how many ids are left incoming, and how many outgoing.
+#[no_mangle]
+pub extern "C" fn joint_clear(incoming: &[u64], outgoing: &[u64], answer: &mut [u64]) -> u64
+    ensures { λ r. ⌜ leaves r (now (answer .exit) ∷ []) ≡ clearLeaves (now (incoming .entry)) (now (outgoing .entry)) (now (answer .entry)) ⌝ }
+{
+    if answer.len() < PAIR {
+        return BROKEN_STATE;
+    }
+    let cleared = config(incoming, outgoing).clear();
+    write_sizes(answer, cleared)
+}
+
+// 12 where the ids are too many, or one stands twice.
+#[no_mangle]
+pub extern "C" fn voters_checked(voters: &[u64]) -> u64
+    ensures { λ r. ⌜ r ≡ votersRefusal (now (voters .entry)) ⌝ }
+{
+    voter_set(voters).checked().refusal()
+}
+
+// 12 of either half.
+#[no_mangle]
+pub extern "C" fn joint_checked(incoming: &[u64], outgoing: &[u64]) -> u64
+    ensures { λ r. ⌜ r ≡ jointRefusal (now (incoming .entry)) (now (outgoing .entry)) ⌝ }
+{
+    config(incoming, outgoing).checked().refusal()
+}
+
+// 12 where the rows are too many, or an id stands twice: what a question refuses that asks nobody.
+#[no_mangle]
+pub extern "C" fn rows_checked(rows: &[u64]) -> u64
+    ensures { λ r. ⌜ r ≡ rowsRefusal (now (rows .entry)) ⌝ }
+{
+    let nobody = JointConfig::new(Voters::empty());
+    let said = joint::committed_index(nobody, table(rows));
+    match said {
+        Committed::At(_, _) => 0,
+        Committed::Refused(number) => number,
+    }
 }

@@ -5,7 +5,6 @@ pub mod Freeing
 pub mod Lists
 pub mod Queue
 pub mod Stays
-pub mod Unique
 pub mod Walk
 pub mod Thin
 pub mod ThinNumber

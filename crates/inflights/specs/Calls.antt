@@ -19,25 +19,28 @@ use Rattle.inflights.specs.declared.Fullness.the-variants as fullness-is
 use Rattle.inflights.specs.declared.Counted.{Counted}
 use Rattle.inflights.specs.declared.Counted.the-variants as count-is
 
--- Document 01's values for each case of the three answers, and of the ring: "Every refusal returns its number alone and changes nothing."
+-- Document 01's values for each case of an answer with a window: "Every refusal returns its number alone and changes nothing."
 abbrev pub windowUnless : Check → Inflights → Answer
 windowUnless check.Fine w = answer.Now w
 windowUnless (check.Refused n) w = answer.Refused n
 
+-- Document 01's values for each case of the answer of `full`: the refusal's number alone, or whether it is full.
 abbrev pub fullUnless : Check → Bool → Fullness
 fullUnless check.Fine true = fullness-is.Full
 fullUnless check.Fine false = fullness-is.NotFull
 fullUnless (check.Refused n) b = fullness-is.Refused n
 
+-- Document 01's values for each case of the answer of `count`: the refusal's number alone, or the count.
 abbrev pub countUnless : Check → ℕ → Counted
 countUnless check.Fine count = count-is.Is count
 countUnless (check.Refused n) count = count-is.Refused n
 
+-- The ring after a call that writes: as it was beside a refusal, else as it was written.
 abbrev pub ringUnless : Check → List ℕ → List ℕ → List ℕ
 ringUnless check.Fine before written = written
 ringUnless (check.Refused n) before written = before
 
--- `new`: no flights, nothing deferred.
+-- THE PROMISE of `new`: no flights, nothing deferred.
 unfoldable pub made : ℕ → ℕ → Answer
 made cap n = windowUnless (capCheck cap n) (emptyOf cap)
 
@@ -48,71 +51,84 @@ withCap w cap =
     else (if eqb (w .count) 0 then emptyOf cap
     else record { start = w .start; count = w .count; cap = w .cap; deferred = Cap cap })
 
+-- The checks of `set_cap`: 13 before 7.
 unfoldable pub setCapCheck : Inflights → ℕ → ℕ → Check
 setCapCheck w n cap = bothChecks (windowCheck w n) (capCheck cap n)
 
+-- THE PROMISE of `set_cap`.
 unfoldable pub capped : Inflights → ℕ → ℕ → Answer
 capped w n cap = windowUnless (setCapCheck w n cap) (withCap w cap)
 
--- `full` and `count`.
+-- THE PROMISE of `full`.
 unfoldable pub fullness : Inflights → ℕ → Fullness
 fullness w n = fullUnless (windowCheck w n) (isFull w)
 
+-- THE PROMISE of `count`.
 unfoldable pub counted : Inflights → ℕ → Counted
 counted w n = countUnless (windowCheck w n) (w .count)
 
--- `add`: "puts one last". "Only `add` writes a word": the one behind the last flight.
+-- The checks of `add`: 13 before 11.
 unfoldable pub addCheck : Inflights → ℕ → Check
 addCheck w n = bothChecks (windowCheck w n) (roomCheck w)
 
+-- One flight more is counted.
 abbrev pub oneMore : Inflights → Inflights
 oneMore w = record { start = w .start; count = w .count + 1; cap = w .cap; deferred = w .deferred }
 
+-- THE PROMISE of `add`: "puts one last".
 unfoldable pub added : Inflights → ℕ → Answer
 added w n = windowUnless (addCheck w n) (oneMore w)
 
+-- THE PROMISE of `add`, of the ring. "Only `add` writes a word": the one behind the last flight.
 unfoldable pub ringAfter : Inflights → List ℕ → ℕ → List ℕ
 ringAfter w ring flight = ringUnless (addCheck w (length ring)) ring (set ring (placeOf (w .start) (w .count) (length ring)) flight)
 
--- "Emptying takes up a deferred cap", and start becomes 0 "when a deferred cap takes effect on emptying".
+-- The window that an empty queue becomes: start becomes 0 "when a deferred cap takes effect on emptying".
 abbrev pub takenUp : Inflights → Deferred → Inflights
 takenUp w Nothing = w
 takenUp w (Cap c) = emptyOf c
 
+-- "Emptying takes up a deferred cap."
 unfoldable pub takeUp : Inflights → Inflights
 takeUp w = if eqb (w .count) 0 then takenUp w (w .deferred) else w
 
--- `free_to`: the flights in front that are at most `to` are gone. What stands behind them stays where it is.
+-- The window without its first k flights. What stands behind them stays where it is.
 abbrev pub behind : Inflights → ℕ → ℕ → Inflights
 behind w k n = record { start = placeOf (w .start) k n; count = w .count - k; cap = w .cap; deferred = w .deferred }
 
+-- 01, Inflights: "`free_to(to)` drops from the front while the flight is at most `to`, stopping at the first larger one."
 unfoldable pub freeTo : Inflights → List ℕ → ℕ → Inflights
 freeTo w ring to = takeUp (behind w (leading to (flights w ring)) (length ring))
 
+-- THE PROMISE of `free_to`.
 unfoldable pub freedTo : Inflights → List ℕ → ℕ → Answer
 freedTo w ring to = windowUnless (windowCheck w (length ring)) (freeTo w ring to)
 
--- `free_first_one`: "does so with the first flight's value".
+-- THE PROMISE of `free_first_one`: "does so with the first flight's value". (Of an empty queue nothing is freed, whatever the value.)
 unfoldable pub freedFirst : Inflights → List ℕ → Answer
 freedFirst w ring = freedTo w ring (getD (flights w ring) 0 0)
 
--- `reset`: "empties and takes the deferred cap". Start becomes 0.
+-- The cap that an emptied queue has: the deferred one, where there is one.
 abbrev pub capOnEmpty : Deferred → ℕ → ℕ
 capOnEmpty Nothing cap = cap
 capOnEmpty (Cap c) cap = c
 
+-- The same of a window.
 abbrev pub nextCap : Inflights → ℕ
 nextCap w = capOnEmpty (w .deferred) (w .cap)
 
+-- THE PROMISE of `reset`: "empties and takes the deferred cap". Start becomes 0 "on `reset`".
 unfoldable pub cleared : Inflights → ℕ → Answer
 cleared w n = windowUnless (windowCheck w n) (emptyOf (nextCap w))
 
--- `maybe_free_buffer`: start becomes 0 "on `maybe_free_buffer` of an empty queue".
+-- The window with start 0.
 abbrev pub fromZero : Inflights → Inflights
 fromZero w = record { start = 0; count = w .count; cap = w .cap; deferred = w .deferred }
 
+-- Start becomes 0 "on `maybe_free_buffer` of an empty queue".
 unfoldable pub rewind : Inflights → Inflights
 rewind w = if eqb (w .count) 0 then fromZero w else w
 
+-- THE PROMISE of `maybe_free_buffer`.
 unfoldable pub rewound : Inflights → ℕ → Answer
 rewound w n = windowUnless (windowCheck w n) (rewind w)

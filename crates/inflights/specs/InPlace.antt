@@ -6,11 +6,11 @@ use Rattle.inflights.specs.declared.Answer.{Answer}
 use Rattle.inflights.specs.declared.Answer.the-variants.{Now, Refused}
 use Rattle.inflights.specs.declared.Step.{Step}
 
--- The window that an answer leaves of w, and the number that is returned.
+-- The window that an answer leaves of w, and the number that is returned: the promise of the calls of `bridge`.
 abbrev pub stepOf : Inflights → Answer → Step
 stepOf w (Now v) = record { window = v; code = 0 }
 stepOf w (Refused n) = record { window = w; code = n }
 
--- The number r that is returned, and the window v that is left, are the step's.
+-- The number r that is returned, and the window v that is left, are the step's: the promise of the calls of `in_place`. 01: "the window's state is changed in place".
 abbrev pub Stored : ℕ → Inflights → Step → Type 0
 Stored r v s = (r ≡ s .code) × (v ≡ s .window)

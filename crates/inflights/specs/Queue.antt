@@ -30,15 +30,16 @@ pub record Frees (to : ℕ) (before after : List ℕ) : Type 0 where
   pub small : AllAtMost to gone
   pub stops : BeginsAbove to after
 
--- 01, Inflights: "`full` is count = cap, or a deferred cap exists and count is at least that."
+-- A deferred cap exists, and count is at least that.
 abbrev pub Reached : Deferred → ℕ → Type 0
 Reached Nothing count = ⊥
 Reached (Cap c) count = c ≤ count
 
+-- 01, Inflights: "`full` is count = cap, or a deferred cap exists and count is at least that."
 abbrev pub IsFull : Inflights → ℕ → Type 0
 IsFull w count = (count ≡ w .cap) ⊎ Reached (w .deferred) count
 
--- No call on this ring refuses the window with 13.
+-- No call on this ring refuses the window with 13: "window state broken".
 pub record NeverBroken (w : Inflights) (ring : List ℕ) : Type 0 where
   pub full : fullness w (length ring) ≢ full-is.Refused brokenWindow
   pub count : counted w (length ring) ≢ count-is.Refused brokenWindow

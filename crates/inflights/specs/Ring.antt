@@ -15,13 +15,15 @@ unfoldable pub values : ℕ → (ℕ → ℕ) → List ℕ
 values zero f = []
 values (suc c) f = f 0 ∷ values c (λ k. f (suc k))
 
--- 01, Inflights: "A queue of u64 flights." The k-th of them, and all.
+-- The k-th flight, counted from 0.
 abbrev pub flightAt : ℕ → List ℕ → ℕ → ℕ
 flightAt start ring k = getD ring (placeOf start k (length ring)) 0
 
+-- All of them, by where they start and how many they are.
 unfoldable pub flightsFrom : ℕ → ℕ → List ℕ → List ℕ
 flightsFrom start count ring = values count (flightAt start ring)
 
+-- 01, Inflights: "A queue of u64 flights." That of a window and its ring.
 abbrev pub flights : Inflights → List ℕ → List ℕ
 flights w ring = flightsFrom (w .start) (w .count) ring
 

@@ -8,6 +8,7 @@ use Rattle.inflights.specs.declared.Deferred.{Deferred}
 use Rattle.inflights.specs.declared.Deferred.the-variants.{Nothing, Cap}
 use Rattle.inflights.specs.declared.Inflights.{Inflights}
 
+-- A choice by a test, read as it is written.
 infixr 5 if_then_else_
 abbrev pub if_then_else_ : {A : Type 0} → Bool → A → A → A
 if true then a else b = a
@@ -26,6 +27,7 @@ deferredFits (Cap c) count cap = ltb c cap && ltb 0 count
 unfoldable pub sound : Inflights → ℕ → Bool
 sound w n = leb (w .count) (w .cap) && (leb (w .cap) n && (startFits (w .start) n && deferredFits (w .deferred) (w .count) (w .cap)))
 
+-- Refusal 13, where a rule is broken.
 unfoldable pub windowCheck : Inflights → ℕ → Check
 windowCheck w n = fineOr (sound w n) brokenWindow
 
@@ -33,11 +35,12 @@ windowCheck w n = fineOr (sound w n) brokenWindow
 unfoldable pub capCheck : ℕ → ℕ → Check
 capCheck cap n = fineOr (leb cap n) noRoom
 
--- 01, Inflights: "`full` is count = cap, or a deferred cap exists and count is at least that."
+-- A deferred cap exists, and count is at least that.
 abbrev pub reached : Deferred → ℕ → Bool
 reached Nothing count = false
 reached (Cap c) count = leb c count
 
+-- 01, Inflights: "`full` is count = cap, or a deferred cap exists and count is at least that."
 unfoldable pub isFull : Inflights → Bool
 isFull w = eqb (w .count) (w .cap) || reached (w .deferred) (w .count)
 
@@ -49,11 +52,12 @@ roomCheck w = fineOr (not (isFull w)) windowFull
 abbrev pub emptyOf : ℕ → Inflights
 emptyOf cap = record { start = 0; count = 0; cap = cap; deferred = Nothing }
 
--- The rules of `sound` as facts, which inner functions require. A start below the larger of n and 1 lies in the ring, or is 0.
+-- The rule of a deferred cap as a fact: it is below cap, and the queue is not empty.
 abbrev pub Waits : Deferred → ℕ → ℕ → Type 0
 Waits Nothing count cap = Unit {0}
 Waits (Cap c) count cap = (c < cap) × (0 < count)
 
+-- The rules of `sound` as facts, which inner functions require. A start below the larger of n and 1 lies in the ring, or is 0. That both say the same is proved in proofs/Facts.antt.
 pub record Sound (w : Inflights) (n : ℕ) : Type 0 where
   pub count-cap : w .count ≤ w .cap
   pub cap-ring : w .cap ≤ n

@@ -10,7 +10,6 @@ use Rattle.units.specs.Units.{wordMax}
 use Rattle.units.specs.Refusals.{brokenState, brokenSet, bothChecks}
 use Rattle.units.specs.declared.Check.{Check}
 use Rattle.units.specs.declared.Check.the-variants as check
-use Rattle.units.proofs.Unique.{OneAnswer, one-answer}
 use Rattle.quorum.specs.Rows.{rowsCheck}
 use Rattle.quorum.specs.Half.{halfIndex, joined}
 use Rattle.quorum.specs.Majority.{indexUnless, acksOf}
@@ -139,10 +138,3 @@ module _ (l : Log) (settled pending : List ℕ) (term : ℕ) (config : JointConf
           let r = joint-index-refused config peers m .0 q in
           let same : m ≡ n = cc a in
           (r .0, sym same ∙ r .1)) (by-state (broken l settled pending) _ n h)
-
--- Two answers that meet the promise are equal (units/proofs/Unique.antt).
-pub leader-maybe-commit : (l : Log) (settled pending : List ℕ) (term : ℕ) (config : JointConfig) (peers : List Peer) → OneAnswer (leaderCommit l settled pending term config peers)
-leader-maybe-commit l settled pending term config peers = one-answer (leaderCommit l settled pending term config peers)
-
-pub leader-commit-found : (l : Log) (settled pending : List ℕ) (term : ℕ) (c : Committed) → OneAnswer (commitFound l settled pending term c)
-leader-commit-found l settled pending term c = one-answer (commitFound l settled pending term c)

@@ -17,6 +17,6 @@ abbrev pub commitFound : Log → List ℕ → List ℕ → ℕ → Committed →
 commitFound l settled pending term (found.At index free) = maybeCommit l settled pending (index .0) term
 commitFound l settled pending term (found.Refused number) = decideUnless (broken l settled pending) (decided.Refused number)
 
--- THE PROMISE of `maybe_commit`.
+-- THE PROMISE of `maybe_commit`. 01: "The log part sees the quorum part only through its promises": the index is the promise of `joint::committed_index`, and what is done with it that of the log's `maybe_commit`.
 unfoldable pub leaderCommit : Log → List ℕ → List ℕ → ℕ → JointConfig → List Peer → Decided
 leaderCommit l settled pending term config peers = commitFound l settled pending term (jointIndex config peers)

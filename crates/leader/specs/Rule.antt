@@ -10,6 +10,7 @@ use Rattle.quorum_laws.specs.JointRule.{Backs}
 use Rattle.raft_log.specs.State.{lastOf, termAt}
 use Rattle.raft_log.specs.declared.Log.{Log}
 
+-- N may be committed: each part of the rule above, "a majority" being one of every half that has voters (the paper, 6).
 pub record MayCommit (l : Log) (settled pending : List ℕ) (term : ℕ) (config : JointConfig) (peers : List Peer) (n : ℕ) : Type 0 where
   pub higher : l .committed .0 < n
   -- 01: "the upper bound is added"

@@ -16,6 +16,7 @@ use crate::text::end_line;
 use crate::text::write_unknown;
 use libc::STDIN_FILENO;
 ghost use Prim.Native.Nat.{_≤_};
+ghost use Rattle.lists.specs.Limits.{longestLine};
 
 // The call of one line.
 fn replay_line(line: &[u64]) {
@@ -23,7 +24,7 @@ fn replay_line(line: &[u64]) {
         1..=9 => window::replay(line),
         11..=29 => log::replay(line),
         30 => leading::replay(line),
-        31..=37 => quorums::replay(line),
+        31..=41 => quorums::replay(line),
         _ => write_unknown(),
     }
     end_line();
@@ -98,7 +99,7 @@ pub const LINE: usize = 512;
 
 // The whole list. Answers how many numbers stand behind the last line feed: none, where the list is whole.
 pub fn replay() -> usize
-    ensures { λ r. ⌜ r ≤ 512 ⌝ }
+    ensures { λ r. ⌜ r ≤ longestLine ⌝ }
 {
     let mut words = [0u64; LINE];
     let left = read_all(&mut words);

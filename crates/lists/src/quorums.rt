@@ -1,6 +1,7 @@
 // The quorum questions.
 //     in:  call first second rows id answer        out:  result answer
 // First are the voters, or the incoming ones; second the outgoing ones, none for a majority.
+// The checks are lent no answer, and what the line has of it stays.
 use crate::line::STATE;
 use crate::line::copied_at;
 use crate::line::number_at;
@@ -8,6 +9,8 @@ use crate::line::part;
 use crate::line::past;
 use crate::text::write_result;
 use crate::text::write_words;
+use exports::quorums::joint_checked;
+use exports::quorums::joint_clear;
 use exports::quorums::joint_committed_index;
 use exports::quorums::joint_contains;
 use exports::quorums::joint_ids;
@@ -15,8 +18,10 @@ use exports::quorums::joint_is_singleton;
 use exports::quorums::joint_vote_result;
 use exports::quorums::majority_committed_index;
 use exports::quorums::majority_vote_result;
+use exports::quorums::rows_checked;
+use exports::quorums::voters_checked;
 
-// The call of that number, from 31 to 37, which is the last arm.
+// The call of that number, from 31 to 41, which is the last arm.
 fn call(
     name: u64,
     first: &[u64],
@@ -32,7 +37,11 @@ fn call(
         34 => joint_vote_result(first, second, rows, answer),
         35 => joint_is_singleton(first, second, answer),
         36 => joint_contains(first, second, id, answer),
-        _ => joint_ids(first, second, answer),
+        37 => joint_ids(first, second, answer),
+        38 => joint_clear(first, second, answer),
+        39 => voters_checked(first),
+        40 => joint_checked(first, second),
+        _ => rows_checked(rows),
     }
 }
 

@@ -1,5 +1,5 @@
 -- The calls that move one number, and settling, decide by the view: on a good log each answers what its rule says of the list of records. (That they leave the list as it is stands in Unmoved.antt and AfterCalls.antt.)
-use Prim.Native.Nat.{ℕ, _-_, _≤_, _<_, min}
+use Prim.Native.Nat.{ℕ, _-_, min}
 use mathlib.Core.Path.{_≡_, sym, ap, ap₂, _∙_}
 use mathlib.Core.Bool.{Bool, false, not, _&&_, _||_}
 use mathlib.Core.List.{List}

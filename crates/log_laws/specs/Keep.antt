@@ -15,19 +15,23 @@ use Rattle.raft_log.specs.declared.Appended.the-variants as appended
 use Rattle.log_laws.specs.View.{view-of}
 
 module _ (P : Log → List ℕ → List ℕ → Type 0) where
+  -- P holds after an answer that is a new log, or a refusal.
   abbrev pub AfterChanged : Changed → List ℕ → List ℕ → Type 0
   AfterChanged (changed.Now after) settled pending = P after settled pending
   AfterChanged (changed.Refused number) settled pending = Unit {0}
 
+  -- P holds after an answer that is a yes with a new log, a no, or a refusal.
   abbrev pub AfterDecided : Decided → List ℕ → List ℕ → Type 0
   AfterDecided (decided.Yes after) settled pending = P after settled pending
   AfterDecided decided.No settled pending = Unit {0}
   AfterDecided (decided.Refused number) settled pending = Unit {0}
 
+  -- P holds after an answer of `append`.
   abbrev pub AfterExtended : Extended → List ℕ → List ℕ → Type 0
   AfterExtended (extended.Last last after) settled pending = P after settled pending
   AfterExtended (extended.Refused number) settled pending = Unit {0}
 
+  -- P holds after an answer of `maybe_append`.
   abbrev pub AfterAppended : Appended → List ℕ → List ℕ → Type 0
   AfterAppended (appended.Done conflict last after) settled pending = P after settled pending
   AfterAppended (appended.Refused number) settled pending = Unit {0}

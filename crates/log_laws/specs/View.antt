@@ -7,14 +7,15 @@ use Rattle.rules.specs.Receiver.{Message}
 use Rattle.raft_log.specs.declared.Log.{Log}
 use Rattle.raft_log.specs.Words.{recordWords, storeTerm, runCount, runTerm, runBody}
 
--- The body of record k of a store.
+-- The body of record k of a store. 01: "two words a record, term then body number".
 abbrev pub storeBody : List ℕ → ℕ → ℕ
 storeBody s k = getD s (k * recordWords + 1) 0
 
--- Record k of a store, and of a run.
+-- Record k of a store.
 abbrev pub storeEntry : List ℕ → ℕ → Entry
 storeEntry s k = record { term = storeTerm s k; body = storeBody s k }
 
+-- Record k of a run.
 abbrev pub runEntry : List ℕ → ℕ → Entry
 runEntry run k = record { term = runTerm run k; body = runBody run k }
 
@@ -23,10 +24,11 @@ unfoldable pub listed : (ℕ → Entry) → ℕ → ℕ → List Entry
 listed f k zero = []
 listed f k (suc n) = f k ∷ listed f (k + 1) n
 
--- The first n records of a store, and the records of a run.
+-- The first n records of a store.
 abbrev pub records : ℕ → List ℕ → List Entry
 records n s = listed (storeEntry s) 0 n
 
+-- The records of a run.
 abbrev pub runEntries : List ℕ → List Entry
 runEntries run = listed (runEntry run) 0 (runCount run)
 
@@ -38,7 +40,7 @@ view-of l settled pending = record {
   entries = records (l .offset .0 - 1 - l .start .0) settled ++ records (l .count) pending;
 }
 
--- What the arguments of `maybe_append` stand for.
+-- What the arguments of `maybe_append(idx, term, commit, run)` stand for: the message of the paper.
 abbrev pub messageOf : ℕ → ℕ → ℕ → List ℕ → Message
 messageOf idx term commit run = record {
   prev-log-index = idx;

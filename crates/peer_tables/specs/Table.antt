@@ -30,23 +30,27 @@ oneMore t p = record { peers = set (t .peers) (t .count) p; count = min (t .coun
 abbrev pub rowsIn : Table → List Peer
 rowsIn t = take (t .count) (t .peers)
 
--- Refusal 12 where there are too many rows, else the answer of the lent ones.
+-- The refusal where the test says yes, else the answer.
 abbrev pub either : {A : Type 0} → Bool → A → A → A
 either true refused answered = refused
 either false refused answered = answered
 
+-- 01, refusal 12: "over 64 rows".
 abbrev pub tooMany : Table → Bool
 tooMany t = ltb rowLimit (t .count)
 
--- THE PROMISES of the questions.
+-- THE PROMISE of `majority::committed_index`: refusal 12 where there are too many rows, else the answer of the lent ones. So for the other three.
 abbrev pub tableIndex : Voters → Table → Committed
 tableIndex v t = either (tooMany t) (answer.Refused brokenSet) (committedIndex v (rowsIn t))
 
+-- THE PROMISE of `majority::vote_result`.
 abbrev pub tableResult : Voters → Table → Verdict
 tableResult v t = either (tooMany t) (verdict.Refused brokenSet) (voteResult v (rowsIn t))
 
+-- THE PROMISE of `joint::committed_index`.
 abbrev pub tableJointIndex : JointConfig → Table → Committed
 tableJointIndex c t = either (tooMany t) (answer.Refused brokenSet) (jointIndex c (rowsIn t))
 
+-- THE PROMISE of `joint::vote_result`.
 abbrev pub tableJointVerdict : JointConfig → Table → Verdict
 tableJointVerdict c t = either (tooMany t) (verdict.Refused brokenSet) (jointVerdict c (rowsIn t))

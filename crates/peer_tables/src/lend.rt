@@ -5,7 +5,7 @@ use quorum::Verdict;
 use quorum::joint::JointConfig;
 use quorum::majority::Voters;
 ghost use mathlib.Core.Path.{_≡_};
-ghost use Prim.Native.Nat.{ℕ, _≤_};
+ghost use Prim.Native.Nat.{_≤_};
 ghost use Rattle.quorum.specs.Limits.{rowLimit};
 ghost use Rattle.quorum.specs.Majority.{committedIndex, voteResult};
 ghost use Rattle.quorum.specs.Joint.{jointIndex, jointVerdict};

@@ -1,1 +1,9 @@
+pub mod Apart
 pub mod Cases
+pub mod EndWitnesses
+pub mod Unique
+pub mod Witnesses
+pub mod WrongLog
+pub mod WrongQuorum
+pub mod WrongWindow
+pub mod WrongWords

@@ -1,7 +1,7 @@
 -- Document 01's cases that are marked P, as ONE table over the very definitions that the contracts cite, across log, quorums and window; and refusal 12 in each of its four ways.
 -- A reader must know: each line has its sentence of 01 beside it, and holds by computing both sides (proofs/Cases.antt). "Log A: start (0,0); terms of 1 to 5 are 1,1,2,2,3; offset 4; committed 2, persisted 3, applied 1; pending room 4 records". The bodies of A are 1 to 5, those of a run 6 and more.
 use Prim.Native.Nat.{ℕ, zero, suc}
-use mathlib.Core.Path.{_≡_, refl}
+use mathlib.Core.Path.{_≡_}
 use mathlib.Core.List.{List, [], _∷_, _++_}
 use Rattle.units.specs.Units.{indexOf, termOf}
 use Rattle.units.specs.Refusals.{outsideLog, mismatch, cutsCommitted, brokenSet}
@@ -30,9 +30,8 @@ use Rattle.quorum.specs.declared.rows.Ack.the-variants as ack
 use Rattle.quorum.specs.declared.rows.Vote.{Vote}
 use Rattle.quorum.specs.declared.rows.Vote.the-variants as vote
 use Rattle.quorum.specs.declared.rows.Peer.{Peer}
-use Rattle.inflights.specs.State.{startFits, deferredFits, sound, windowCheck, capCheck, isFull, roomCheck}
-use Rattle.inflights.specs.Ring.{placeOf, values, flightsFrom, flights, leading}
-use Rattle.inflights.specs.Calls.{made, withCap, setCapCheck, capped, fullness, addCheck, added, ringAfter, takeUp, freeTo, freedTo}
+use Rattle.inflights.specs.Ring.{flights}
+use Rattle.inflights.specs.Calls.{made, capped, fullness, added, ringAfter, freedTo}
 use Rattle.inflights.specs.declared.Deferred.{Deferred}
 use Rattle.inflights.specs.declared.Deferred.the-variants.{Nothing, Cap}
 use Rattle.inflights.specs.declared.Inflights.{Inflights}
@@ -53,12 +52,15 @@ likeA offset count committed persisted = record {
   applied = indexOf 1;
 }
 
+-- Log A itself.
 abbrev pub logA : Log
 logA = likeA 4 2 2 3
 
+-- The words of its settled store: records 1 to 3.
 abbrev pub settledA : List ℕ
 settledA = 1 ∷ 1 ∷ 1 ∷ 2 ∷ 2 ∷ 3 ∷ []
 
+-- The words of its pending store: records 4 and 5, and room for two more.
 abbrev pub pendingA : List ℕ
 pendingA = 2 ∷ 4 ∷ 3 ∷ 5 ∷ 0 ∷ 0 ∷ 0 ∷ 0 ∷ []
 
@@ -71,35 +73,40 @@ pub record Appends (idx term commit : ℕ) (run : List ℕ) (answer : Appended) 
 abbrev pub taken : ℕ → ℕ → Log → Appended
 taken conflict last after = Done (indexOf conflict) (indexOf last) after
 
+-- "gives (4,2)": an index and its term.
 abbrev pub found : ℕ → ℕ → ByTerm
 found index term = byterm.Found (indexOf index) (termOf term)
 
 -- ---- quorums
 
--- So many ids, or voters, from one on.
+-- So many ids, from one on.
 abbrev pub idsFrom : ℕ → ℕ → List ℕ
 idsFrom id zero = []
 idsFrom id (suc n) = id ∷ idsFrom (suc id) n
 
+-- The voters of these ids.
 abbrev pub votersFrom : ℕ → ℕ → Voters
 votersFrom id n = setOf (idsFrom id n)
 
--- Rows whose ids rise from one on, and from 1 on: with these acknowledgements; with these votes.
+-- Rows with these acknowledgements, whose ids rise from one on.
 abbrev pub ackingFrom : ℕ → List ℕ → List Peer
 ackingFrom id [] = []
 ackingFrom id (a ∷ acks) = record { id = id; ack = ack.At (indexOf a); vote = vote.Missing } ∷ ackingFrom (suc id) acks
 
+-- Rows with these acknowledgements, whose ids rise from 1 on.
 abbrev pub acking : List ℕ → List Peer
 acking acks = ackingFrom 1 acks
 
+-- Rows with these votes, whose ids rise from one on.
 abbrev pub votingFrom : ℕ → List Vote → List Peer
 votingFrom id [] = []
 votingFrom id (v ∷ votes) = record { id = id; ack = ack.Missing; vote = v } ∷ votingFrom (suc id) votes
 
+-- Rows with these votes, whose ids rise from 1 on.
 abbrev pub voting : List Vote → List Peer
 voting votes = votingFrom 1 votes
 
--- The answer "committed up to n".
+-- The answer that n is committed, by voters who had a say.
 abbrev pub upTo : ℕ → Committed
 upTo n = answer.At (indexOf n) false
 
@@ -113,10 +120,11 @@ threeAndTwo = record { incoming = votersFrom 1 3; outgoing = votersFrom 4 2 }
 abbrev pub window : ℕ → ℕ → Deferred → Inflights
 window start count deferred = record { start = start; count = count; cap = 4; deferred = deferred }
 
--- What stood in the ring before, and what stands there with all three flights.
+-- What stood in the ring before.
 abbrev pub old : List ℕ
 old = 9 ∷ 9 ∷ 9 ∷ 9 ∷ []
 
+-- What stands there with all three flights.
 abbrev pub flown : List ℕ
 flown = 5 ∷ 5 ∷ 6 ∷ 9 ∷ []
 

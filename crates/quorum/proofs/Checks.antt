@@ -2,7 +2,12 @@
 use Prim.Native.Nat.{ℕ, _≤_}
 use mathlib.Core.Path.{_≡_, refl, sym, ap, _∙_}
 use mathlib.Core.Bool.{Bool, true, false, _&&_}
+use mathlib.Core.List.{List}
+use native.Mathlib.Omega.{arith}
 use lib.Dec.{leb}
+use lib.ListN.{length}
+use mir.Val.{Val}
+use denote.Laws.{Is}
 use borrow.Author.Tests.{leb-true}
 use Rattle.units.specs.declared.Check.{Check}
 use Rattle.units.specs.declared.Check.the-variants as check
@@ -15,6 +20,8 @@ use Rattle.quorum.specs.Joint.{configCheck}
 use Rattle.quorum.specs.declared.majority.Voters.{Voters}
 use Rattle.quorum.specs.declared.rows.Rows.{Rows}
 use Rattle.quorum.specs.declared.joint.JointConfig.{JointConfig}
+use Rattle.quorum.proofs.Sizes.{row-ids-length, row-values-length}
+use Rattle.quorum.proofs.rows.Rows as Ro
 
 pub fine-true : (b : Bool) → fineIf b ≡ check.Fine → b ≡ true
 fine-true true e = refl
@@ -38,8 +45,16 @@ second-fine (check.Refused n) b e = cc
 pub voters-within : (v : Voters) → votersCheck v ≡ check.Fine → v .count ≤ voterLimit
 voters-within v e = within-limit (v .count) voterLimit (distinct (votersOf v)) e
 
-pub rows-within : (r : Rows) → plainCheck r ≡ check.Fine → r .count ≤ rowLimit
+rows-within : (r : Rows) → plainCheck r ≡ check.Fine → r .count ≤ rowLimit
 rows-within r e = within-limit (r .count) rowLimit (distinct (idsOf r)) e
+
+-- rows that were checked, after k: their arrays hold what they count
+module _ (k : Check) (r : Rows) {vs : List Val} (good : Is Ro.the-row r vs) (fine : bothChecks k (plainCheck r) ≡ check.Fine) where
+  pub ids-held : r .count ≤ length (r .ids)
+  ids-held = omega (arith, rows-within r (second-fine k (plainCheck r) fine), row-ids-length r good)
+
+  pub values-held : r .count ≤ length (r .values)
+  values-held = omega (arith, rows-within r (second-fine k (plainCheck r) fine), row-values-length r good)
 
 -- of both halves
 pub incoming-within : (c : JointConfig) → configCheck c ≡ check.Fine → c .incoming .count ≤ voterLimit

@@ -10,5 +10,7 @@ pub mod Values
 pub mod Answers
 pub mod Gathered
 pub mod Words
-pub mod Calls
+pub mod ByValue
+pub mod Exact
+pub mod OverRows
 pub mod Thin

@@ -31,7 +31,7 @@ module _ (n : ℕ) (xs : List ℕ) (fits : length xs ≤ n) where
   pub take-padded : take (length xs) (padded n xs) ≡ xs
   take-padded = rw padded-fits (take-append-seam xs (zeros (n - length xs)))
 
-  pub drop-padded : drop (length xs) (padded n xs) ≡ zeros (n - length xs)
+  drop-padded : drop (length xs) (padded n xs) ≡ zeros (n - length xs)
   drop-padded = rw padded-fits (drop-append-seam xs (zeros (n - length xs)))
 
 -- Another list of the same length in its place.

@@ -1,10 +1,10 @@
--- One half: the questions over what its voters have acknowledged or voted. What holds of both halves of a joint configuration is said here, once.
+-- One half: the questions over what its voters have acknowledged or voted. A reader must know: one voter set is a half, and a joint configuration has two; what holds of both halves is said here, once.
 use Prim.Native.Nat.{ℕ, min}
-use mathlib.Core.Bool.{Bool, true, false, _&&_}
-use mathlib.Core.List.{List, [], _∷_, map}
+use mathlib.Core.Bool.{true, false, _&&_}
+use mathlib.Core.List.{List, [], _∷_}
 use lib.ListN.{length, getD}
 use lib.Dec.{eqb}
-use Rattle.units.specs.Units.{wordMax, indexOf}
+use Rattle.units.specs.Units.{wordMax}
 use Rattle.rules.specs.Count.{count}
 use Rattle.rules.specs.Majority.{committed}
 use Rattle.quorum.specs.Ids.{position}

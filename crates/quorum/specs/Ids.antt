@@ -7,6 +7,7 @@ use lib.Dec.{eqb, leb, ltb}
 use Rattle.units.specs.declared.Check.{Check}
 use Rattle.units.specs.Refusals.{brokenSet, fineOr}
 
+-- 0 where the first id is the one looked for, else one more.
 abbrev pub zero-if : Bool → ℕ → ℕ
 zero-if true n = 0
 zero-if false n = suc n

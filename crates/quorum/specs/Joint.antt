@@ -4,7 +4,7 @@ use mathlib.Core.Bool.{Bool, true, false, _&&_, _||_}
 use mathlib.Core.List.{List, [], _∷_, _++_}
 use lib.ListN.{length, take, set}
 use lib.Dec.{eqb}
-use Prim.Native.Nat.{suc, _+_}
+use Prim.Native.Nat.{_+_}
 use Rattle.units.specs.Refusals.{bothChecks}
 use Rattle.units.specs.declared.Check.{Check}
 use Rattle.units.specs.declared.Check.the-variants as check
@@ -26,26 +26,27 @@ use Rattle.quorum.specs.declared.joint.Ids.{Ids}
 use Rattle.quorum.specs.declared.rows.Peer.{Peer}
 use Rattle.quorum.specs.declared.rows.Rows.{Rows}
 
--- A configuration of one set: nobody is outgoing.
+-- THE PROMISE of `new`: a configuration of one set, nobody outgoing. The promise of `clear` is `oneSet noVoters`.
 abbrev pub oneSet : Voters → JointConfig
 oneSet v = record { incoming = v; outgoing = noVoters }
 
--- Refusal 12 of a configuration: of either half.
+-- THE PROMISE of `checked`. Refusal 12 of a configuration: of either half.
 abbrev pub configCheck : JointConfig → Check
 configCheck c = bothChecks (votersCheck (c .incoming)) (votersCheck (c .outgoing))
 
--- THE PROMISE of `committed_index`.
+-- THE PROMISE of `committed_index`. 01, Joint: "The index is the smaller of the two, the flag is true only if both are."
 unfoldable pub jointIndex : JointConfig → List Peer → Committed
 jointIndex c peers = indexUnless (bothChecks (configCheck c) (rowsCheck peers)) (joined (halfIndex (acksOf peers (c .incoming))) (halfIndex (acksOf peers (c .outgoing))))
 
--- THE PROMISE of `vote_result`.
+-- THE PROMISE of `vote_result`. 01, Joint: "Won if Won in both, Lost if Lost in either, else Pending."
 unfoldable pub jointVerdict : JointConfig → List Peer → Verdict
 jointVerdict c peers = resultUnless (bothChecks (configCheck c) (rowsCheck peers)) (jointResult (resultOf (votesOf peers (c .incoming))) (resultOf (votesOf peers (c .outgoing))))
 
--- The same over gathered rows.
+-- THE PROMISE of `committed_index_of`: as `committed_index`, over gathered rows.
 unfoldable pub plainJointIndex : JointConfig → Rows → Committed
 plainJointIndex c r = indexUnless (bothChecks (configCheck c) (plainCheck r)) (joined (halfIndex (plainValues r (c .incoming))) (halfIndex (plainValues r (c .outgoing))))
 
+-- THE PROMISE of `vote_result_of`: as `vote_result`, over gathered rows.
 unfoldable pub plainJointVerdict : JointConfig → Rows → Verdict
 plainJointVerdict c r = resultUnless (bothChecks (configCheck c) (plainCheck r)) (jointResult (numbersResult (plainValues r (c .incoming))) (numbersResult (plainValues r (c .outgoing))))
 
@@ -54,15 +55,14 @@ abbrev pub isUnless : Check → Bool → Answer
 isUnless check.Fine b = answer.Is b
 isUnless (check.Refused n) b = answer.Refused n
 
--- THE PROMISE of `is_singleton`: one incoming voter, and nobody outgoing.
+-- THE PROMISE of `is_singleton`, which 01, Joint, names: one incoming voter, and nobody outgoing.
 abbrev pub singleton : JointConfig → Answer
 singleton c = isUnless (configCheck c) (eqb (c .outgoing .count) 0 && eqb (c .incoming .count) 1)
 
--- THE PROMISE of `contains`: a voter of either half.
+-- THE PROMISE of `contains`, which 01, Joint, names: a voter of either half.
 abbrev pub containsOf : JointConfig → ℕ → Answer
 containsOf c id = isUnless (configCheck c) (has id (votersOf (c .incoming)) || has id (votersOf (c .outgoing)))
 
--- THE PROMISE of `ids`. 01, Joint: "the ids of both, each once. We list ids in rising order".
 -- One id more at the end, where it is not there yet.
 abbrev pub one-more-unless : Bool → List ℕ → ℕ → List ℕ
 one-more-unless true ids id = ids
@@ -73,6 +73,7 @@ unfoldable pub rising : List ℕ → List ℕ
 rising [] = []
 rising (x ∷ xs) = one-more-unless (has x (rising xs)) (rising xs) x
 
+-- 01, Joint: "the ids of both, each once. We list ids in rising order".
 unfoldable pub bothIds : JointConfig → List ℕ
 bothIds c = rising (falling (votersOf (c .incoming) ++ votersOf (c .outgoing)))
 
@@ -85,12 +86,15 @@ abbrev pub withIdUnless : Bool → Ids → ℕ → Ids
 withIdUnless true s id = s
 withIdUnless false s id = record { check = s .check; ids = set (s .ids) (s .count) id; count = s .count + 1 }
 
+-- The same, by whether it is there.
 abbrev pub withId : Ids → ℕ → Ids
 withId s id = withIdUnless (has id (take (s .count) (s .ids))) s id
 
+-- Document 01's values for each case of the answer: the refusal's number and no id, or the ids.
 abbrev pub listedUnless : Check → List ℕ → Ids
 listedUnless check.Fine ids = listed check.Fine ids
 listedUnless (check.Refused n) ids = listed (check.Refused n) []
 
+-- THE PROMISE of `ids`.
 abbrev pub idsAnswer : JointConfig → Ids
 idsAnswer c = listedUnless (configCheck c) (bothIds c)

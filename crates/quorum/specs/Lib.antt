@@ -1,3 +1,4 @@
+-- Voter sets, majority and joint quorums, votes, peer rows. A reader must know: what is handed in is in Limits, Ids, Voters and Rows, the rule of one half in Votes and Half, the promises of the questions in Majority and Joint. Sort is inner.
 pub mod Limits
 pub mod Ids
 pub mod Sort

@@ -1,4 +1,4 @@
--- The limits of document 01, each once: 31 and 128 go here and into `Voters::LIMIT` and `Rows::LIMIT` of the source, and nowhere else.
+-- The limits of document 01. A reader must know: each stands here once, and in `Voters::LIMIT` and `Rows::LIMIT` of the source; other limits change these numbers and nothing else.
 use Prim.Native.Nat.{ℕ, _+_}
 
 -- 01, Majority: "A voter set of 0 to 7 different ids."

@@ -20,36 +20,40 @@ use Rattle.quorum.specs.declared.rows.Peer.{Peer}
 use Rattle.quorum.specs.declared.rows.Rows.{Rows}
 use Rattle.quorum.specs.declared.rows.Vote.{Vote}
 
--- Document 01's values for each case of the two answers: the refusal's number alone, or the index with its flag; or how the vote stands.
+-- Document 01's values for each case of the index answer: the refusal's number alone, or the index with its flag.
 abbrev pub indexUnless : Check → Half → Committed
 indexUnless check.Fine h = answer.At (indexOf (h .index)) (h .free)
 indexUnless (check.Refused n) h = answer.Refused n
 
+-- Document 01's values for each case of the vote answer: the refusal's number alone, or how the vote stands.
 abbrev pub resultUnless : Check → VoteResult → Verdict
 resultUnless check.Fine r = verdict.Stands r
 resultUnless (check.Refused n) r = verdict.Refused n
 
--- What each voter of a set has acknowledged, and how each has voted, by the lent rows.
+-- What each voter of a set has acknowledged, by the lent rows.
 abbrev pub acksOf : List Peer → Voters → List ℕ
 acksOf peers v = map (λ id. ackNumber (rowOf peers id .ack)) (votersOf v)
 
+-- How each voter of a set has voted, by the lent rows.
 abbrev pub votesOf : List Peer → Voters → List Vote
 votesOf peers v = map (λ id. rowOf peers id .vote) (votersOf v)
 
--- THE PROMISE of `committed_index`.
+-- THE PROMISE of `committed_index`. 01, Majority: "The committed index is the quorum-th largest acknowledgement; a missing one counts as 0. An empty set gives (u64::MAX, true); any other gives (index, false)."
 unfoldable pub committedIndex : Voters → List Peer → Committed
 committedIndex v peers = indexUnless (bothChecks (votersCheck v) (rowsCheck peers)) (halfIndex (acksOf peers v))
 
--- THE PROMISE of `vote_result`.
+-- THE PROMISE of `vote_result`. 01, Majority: "an empty set is Won; otherwise Won if yes reaches the quorum, else Pending if yes plus missing reaches it, else Lost."
 unfoldable pub voteResult : Voters → List Peer → Verdict
 voteResult v peers = resultUnless (bothChecks (votersCheck v) (rowsCheck peers)) (resultOf (votesOf peers v))
 
--- The same questions over gathered rows: what each voter's value is.
+-- What the question reads of each voter of a set, by gathered rows.
 abbrev pub plainValues : Rows → Voters → List ℕ
 plainValues r v = map (valueIn (idsOf r) (valuesOf r)) (votersOf v)
 
+-- THE PROMISE of `committed_index_of`: as `committed_index`, over gathered rows.
 unfoldable pub plainIndex : Voters → Rows → Committed
 plainIndex v r = indexUnless (bothChecks (votersCheck v) (plainCheck r)) (halfIndex (plainValues r v))
 
+-- THE PROMISE of `vote_result_of`: as `vote_result`, over gathered rows.
 unfoldable pub plainResult : Voters → Rows → Verdict
 plainResult v r = resultUnless (bothChecks (votersCheck v) (plainCheck r)) (numbersResult (plainValues r v))

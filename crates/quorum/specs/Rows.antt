@@ -1,7 +1,7 @@
 -- Peer rows. A reader must know: a quorum question reads the rows through `rowOf`, the row of a voter by its id; a voter without a row is missing everywhere.
 use Prim.Native.Nat.{ℕ}
-use mathlib.Core.Bool.{Bool, _&&_}
-use mathlib.Core.List.{List, [], _∷_, map}
+use mathlib.Core.Bool.{_&&_}
+use mathlib.Core.List.{List, map}
 use lib.ListN.{length, getD, take}
 use lib.Dec.{leb}
 use Rattle.units.specs.declared.Index.{Index}
@@ -21,6 +21,7 @@ use Rattle.quorum.specs.declared.rows.Rows.{Rows}
 abbrev pub nobody : Peer
 nobody = record { id = 0; ack = ack.Missing; vote = vote.Missing }
 
+-- The id of a row.
 abbrev pub idOf : Peer → ℕ
 idOf p = p .id
 
@@ -28,12 +29,12 @@ idOf p = p .id
 abbrev pub rowOf : List Peer → ℕ → Peer
 rowOf peers id = getD peers (position id (map idOf peers)) nobody
 
--- 01, Majority: "a missing one counts as 0".
+-- THE PROMISE of `ack_number`. 01, Majority: "a missing one counts as 0".
 abbrev pub ackNumber : Ack → ℕ
 ackNumber ack.Missing = 0
 ackNumber (ack.At index) = index .0
 
--- A vote as a number, for the gathered rows: 0 missing, 1 yes, 2 no.
+-- THE PROMISE of `vote_number`: a vote as a number, for the gathered rows: 0 missing, 1 yes, 2 no.
 abbrev pub voteNumber : Vote → ℕ
 voteNumber vote.Missing = 0
 voteNumber vote.Yes = 1
@@ -43,21 +44,23 @@ voteNumber vote.No = 2
 abbrev pub rowsCheck : List Peer → Check
 rowsCheck peers = fineIf (leb (length peers) rowLimit && distinct (map idOf peers))
 
--- What a question reads of a row, as a number.
+-- THE PROMISE of `value`: what a question reads of a row, as a number.
 abbrev pub valueFor : Question → Peer → ℕ
 valueFor question.Index p = ackNumber (p .ack)
 valueFor question.Vote p = voteNumber (p .vote)
 
--- The rows laid into two arrays for one question; `count` is how many there were, also where they did not fit.
+-- THE PROMISE of `gather`: the rows laid into two arrays for one question; `count` is how many there were, also where they did not fit.
 abbrev pub gathered : Question → List Peer → Rows
 gathered q peers = record { ids = padded rowLimit (map idOf peers); values = padded rowLimit (map (valueFor q) peers); count = length peers }
 
--- The ids, and the values beside them, of rows in arrays; and refusal 12 of them.
+-- The ids of rows in arrays: the first `count`.
 abbrev pub idsOf : Rows → List ℕ
 idsOf r = take (r .count) (r .ids)
 
+-- The values beside them.
 abbrev pub valuesOf : Rows → List ℕ
 valuesOf r = take (r .count) (r .values)
 
+-- THE PROMISE of `checked`. Refusal 12 of rows in arrays: "over 64 rows, a repeated row id".
 abbrev pub plainCheck : Rows → Check
 plainCheck r = fineIf (leb (r .count) rowLimit && distinct (idsOf r))

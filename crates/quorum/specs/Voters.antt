@@ -16,21 +16,23 @@ use Rattle.quorum.specs.declared.majority.Made.{Made}
 abbrev pub votersOf : Voters → List ℕ
 votersOf v = take (v .count) (v .ids)
 
--- Refusal 12 of a voter set: "over 7 voters, a repeated voter id".
+-- THE PROMISE of `checked`. Refusal 12 of a voter set: "over 7 voters, a repeated voter id".
 abbrev pub votersCheck : Voters → Check
 votersCheck v = fineIf (leb (v .count) voterLimit && distinct (votersOf v))
 
--- The set of a list of ids, and the empty set: unused words are 0.
+-- The set of a list of ids: unused words are 0.
 abbrev pub setOf : List ℕ → Voters
 setOf ids = record { ids = padded voterLimit ids; count = length ids }
 
+-- THE PROMISE of `empty`: the set of nobody.
 abbrev pub noVoters : Voters
 noVoters = setOf []
 
--- What the constructor answers: the set, or refusal 12 beside the empty set.
+-- The set where the test says yes, else refusal 12 beside the empty set.
 abbrev pub madeIf : Bool → List ℕ → Made
 madeIf true ids = record { check = check.Fine; set = setOf ids }
 madeIf false ids = record { check = check.Refused brokenSet; set = noVoters }
 
+-- THE PROMISE of `new`. 01, Majority: "A voter set of 0 to 7 different ids."
 abbrev pub made : List ℕ → Made
 made ids = madeIf (leb (length ids) voterLimit && distinct ids) ids

@@ -12,6 +12,7 @@ use Rattle.quorum.specs.declared.VoteResult.the-variants as result
 use Rattle.quorum.specs.declared.rows.Vote.{Vote}
 use Rattle.quorum.specs.declared.rows.Vote.the-variants as vote
 
+-- The first where the test says yes, else the second.
 abbrev pub pickResult : Bool → VoteResult → VoteResult → VoteResult
 pickResult true a b = a
 pickResult false a b = b
@@ -24,16 +25,19 @@ tally voters said missing =
     (pickResult (leb (quorum voters) said) result.Won
     (pickResult (leb (quorum voters) (said + missing)) result.Pending result.Lost))
 
+-- The vote is a yes.
 abbrev pub isYes : Vote → Bool
 isYes vote.Missing = false
 isYes vote.Yes = true
 isYes vote.No = false
 
+-- The vote is missing.
 abbrev pub isMissing : Vote → Bool
 isMissing vote.Missing = true
 isMissing vote.Yes = false
 isMissing vote.No = false
 
+-- The same, from the votes themselves.
 abbrev pub resultOf : List Vote → VoteResult
 resultOf votes = tally (length votes) (count isYes votes) (count isMissing votes)
 
@@ -48,7 +52,7 @@ pub data Ends : List Vote → List Bool → Type 0 where
 abbrev pub yesIn : List Bool → ℕ
 yesIn ends = count (λ b. b) ends
 
--- Won: a majority says yes, however it ends.
+-- Won: a majority says yes, however it ends. The paper, 5.2: "A candidate wins an election if it receives votes from a majority of the servers in the full cluster".
 abbrev pub Sure : List Vote → Type 0
 Sure votes = (ends : List Bool) → Ends votes ends → quorum (length votes) ≤ yesIn ends
 

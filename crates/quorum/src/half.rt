@@ -2,11 +2,12 @@
 // `ids` and `values` are the gathered rows.
 use crate::VoteResult;
 use crate::majority::Voters;
+use units::smaller;
 ghost use mathlib.Core.Path.{_≡_};
 ghost use mathlib.Core.Bool.{_&&_};
 ghost use mathlib.Core.List.{map};
-ghost use Prim.Native.Nat.{ℕ, _≤_, _<_, _+_, min};
-ghost use lib.ListN.{length, take};
+ghost use Prim.Native.Nat.{_≤_, _<_, _+_};
+ghost use lib.ListN.{take};
 ghost use lib.Dec.{eqb};
 ghost use Rattle.rules.specs.Count.{count, one-more-if};
 ghost use Rattle.rules.specs.Majority.{committed};
@@ -77,7 +78,7 @@ pub fn committed_index(voters: Voters, ids: &[u64], values: &[u64]) -> Half
     let count = voters.count;
     if count == 0 {
         return Half {
-            index: 0xffff_ffff_ffff_ffff,
+            index: u64::MAX,
             free: true,
         };
     }
@@ -86,12 +87,6 @@ pub fn committed_index(voters: Voters, ids: &[u64], values: &[u64]) -> Half
         index: quorum_index(acks, count),
         free: false,
     }
-}
-
-fn smaller(a: u64, b: u64) -> u64
-    ensures { λ r. ⌜ r ≡ min a b ⌝ }
-{
-    if a < b { a } else { b }
 }
 
 fn both(a: bool, b: bool) -> bool

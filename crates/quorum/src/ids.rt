@@ -2,7 +2,7 @@
 use units::Check;
 use units::refusal::BROKEN_SET;
 ghost use mathlib.Core.Path.{_≡_};
-ghost use Prim.Native.Nat.{ℕ, _+_, _≤_};
+ghost use Prim.Native.Nat.{_+_, _≤_};
 ghost use lib.ListN.{length};
 ghost use lib.Seq.{paste};
 ghost use Rattle.quorum.specs.Ids.{position as positionOf, distinct as distinctOf, checkOf};

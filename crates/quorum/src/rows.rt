@@ -2,7 +2,7 @@
 use units::Check;
 use units::Index;
 ghost use mathlib.Core.Path.{_≡_};
-ghost use Prim.Native.Nat.{ℕ, _<_, min};
+ghost use Prim.Native.Nat.{_<_, min};
 ghost use lib.ListN.{length, getD};
 ghost use Rattle.quorum.specs.Rows.{nobody, ackNumber, voteNumber, valueFor, gathered, plainCheck};
 

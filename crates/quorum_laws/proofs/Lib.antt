@@ -7,4 +7,3 @@ pub mod Ids
 pub mod Answers
 pub mod Order
 pub mod Shared
-pub mod Unique

@@ -7,7 +7,7 @@ use Rattle.quorum.specs.Ids.{has}
 use Rattle.quorum.specs.Voters.{votersOf}
 use Rattle.quorum.specs.declared.joint.JointConfig.{JointConfig}
 
--- Each id is smaller than all that stand behind it; so none stands twice.
+-- Each id is smaller than all that stand behind it ("in rising order"); so none stands twice ("each once").
 abbrev pub Rising : List ℕ → Type 0
 Rising [] = Unit {0}
 Rising (x ∷ xs) = ((y : ℕ) → has y xs ≡ true → x < y) × Rising xs

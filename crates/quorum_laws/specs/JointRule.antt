@@ -8,7 +8,7 @@ use Rattle.rules.specs.Majority.{MajorityReached}
 use Rattle.quorum.specs.Votes.{Sure, Hopeless}
 use Rattle.quorum.specs.declared.rows.Vote.{Vote}
 
--- A half backs m where nobody is in it, or a majority of it has acknowledged m or more.
+-- A half backs m where nobody is in it, or a majority of it has acknowledged m or more. The paper, 6: "Agreement (for elections and entry commitment) requires separate majorities from both the old and new configurations."
 abbrev pub Backs : List ℕ → ℕ → Type 0
 Backs acks m = 0 < length acks → MajorityReached m acks
 
@@ -19,10 +19,10 @@ pub record JointCommits (incoming outgoing : List ℕ) (n : ℕ) : Type 0 where
   pub by-outgoing : Backs outgoing n
   pub largest : (m : ℕ) → m ≤ wordMax → Backs incoming m → Backs outgoing m → m ≤ n
 
--- A half wins where nobody is in it, or a majority of it says yes, however the vote ends; it loses where somebody is, and no majority does.
--- 01, Joint: "Won if Won in both, Lost if Lost in either, else Pending."
+-- A half wins where nobody is in it, or a majority of it says yes, however the vote ends. 01, Majority: "an empty set is Won; otherwise Won if yes reaches the quorum".
 abbrev pub Wins : List Vote → Type 0
 Wins votes = 0 < length votes → Sure votes
 
+-- It loses where somebody is in it, and no majority says yes, however the vote ends. 01, Majority: "else Pending if yes plus missing reaches it, else Lost."
 abbrev pub Loses : List Vote → Type 0
 Loses votes = (0 < length votes) × Hopeless votes

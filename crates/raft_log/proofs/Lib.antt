@@ -12,4 +12,3 @@ pub mod Slices
 pub mod Copying
 pub mod Settling
 pub mod Setups
-pub mod Unique

@@ -20,7 +20,7 @@ differs l settled pending idx run k = not (eqb (runTerm run k) (termAt l settled
 abbrev pub conflictOf : ℕ → ℕ → ℕ → ℕ
 conflictOf idx n k = pick (ltb k n) (idx + 1 + k) 0
 
--- The log with these in place of its own.
+-- The log with another offset, pending count and persisted.
 abbrev pub withPending : Log → ℕ → ℕ → ℕ → Log
 withPending l offset count persisted = record {
   start = l .start;
@@ -32,6 +32,7 @@ withPending l offset count persisted = record {
   applied = l .applied;
 }
 
+-- The log with another committed.
 abbrev pub withCommitted : Log → ℕ → Log
 withCommitted l committed = record {
   start = l .start;
@@ -78,6 +79,7 @@ cuts l idx n k = ltb k n && leb (idx + 1 + k) (l .committed .0)
 abbrev pub overfull : Log → List ℕ → Bool
 overfull after pending = ltb (room pending) (after .count)
 
+-- The refusal where the test says yes, else the answer.
 abbrev pub refuseIf : Bool → ℕ → Appended → Appended
 refuseIf true number answer = Refused number
 refuseIf false number answer = answer
@@ -108,6 +110,7 @@ appendAnswer l settled pending idx term commit run =
     (refuseIf (zeroTermIn run) zeroTerm
     (matchRun l settled pending idx term commit run (runCount run))))
 
+-- The first where the test says yes, else the second.
 abbrev pub storeIf : Bool → List ℕ → List ℕ → List ℕ
 storeIf true a b = a
 storeIf false a b = b

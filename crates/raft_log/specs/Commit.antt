@@ -14,6 +14,7 @@ use Rattle.raft_log.specs.Words.{storeTerm}
 use Rattle.raft_log.specs.State.{lastOf, broken, termAt}
 use Rattle.raft_log.specs.Append.{withCommitted, withPending}
 
+-- The log with another applied.
 abbrev pub withApplied : Log → ℕ → Log
 withApplied l applied = record {
   start = l .start;
@@ -25,13 +26,16 @@ withApplied l applied = record {
   applied = indexOf applied;
 }
 
+-- The log with another persisted.
 abbrev pub withPersisted : Log → ℕ → Log
 withPersisted l persisted = withPending l (l .offset .0) (l .count) persisted
 
+-- The refusal where the test says yes, else the answer.
 abbrev pub refuseIf : Bool → ℕ → Changed → Changed
 refuseIf true number answer = changed.Refused number
 refuseIf false number answer = answer
 
+-- The first answer where the test says yes, else the second.
 abbrev pub changedIf : Bool → Changed → Changed → Changed
 changedIf true a b = a
 changedIf false a b = b
@@ -50,24 +54,28 @@ appliedTo l settled pending i =
     (changedIf (eqb i 0) (changed.Now l)
     (refuseIf (ltb (min (l .committed .0) (l .persisted .0)) i || ltb i (l .applied .0)) outOfRange (changed.Now (withApplied l i))))
 
+-- Refusal 1 where the state is broken, else the answer.
 abbrev pub decideUnless : Bool → Decided → Decided
 decideUnless true answer = decided.Refused brokenState
 decideUnless false answer = answer
 
+-- Yes, with the log after it, or no.
 abbrev pub yesIf : Bool → Log → Decided
 yesIf true l = decided.Yes l
 yesIf false l = decided.No
 
--- THE PROMISE of `maybe_commit(i, t)`: "yes exactly if committed < i <= last (the upper bound is added) and term(i) = t, then commits".
+-- "yes exactly if committed < i <= last (the upper bound is added) and term(i) = t"
 abbrev pub mayCommit : Log → List ℕ → List ℕ → ℕ → ℕ → Bool
 mayCommit l settled pending i t = ltb (l .committed .0) i && leb i (lastOf l) && eqb (termAt l settled pending i) t
 
+-- THE PROMISE of `maybe_commit(i, t)`: that, "then commits".
 unfoldable pub maybeCommit : Log → List ℕ → List ℕ → ℕ → ℕ → Decided
 maybeCommit l settled pending i t = decideUnless (broken l settled pending) (yesIf (mayCommit l settled pending i t) (withCommitted l i))
 
--- THE PROMISE of `maybe_persist(i, t)`: "yes exactly if persisted < i < offset and the settled term at i is t; then persisted is i".
+-- "yes exactly if persisted < i < offset and the settled term at i is t"
 abbrev pub mayPersist : Log → List ℕ → ℕ → ℕ → Bool
 mayPersist l settled i t = ltb (l .persisted .0) i && ltb i (l .offset .0) && eqb (storeTerm settled (i - l .start .0 - 1)) t
 
+-- THE PROMISE of `maybe_persist(i, t)`: that; "then persisted is i".
 unfoldable pub maybePersist : Log → List ℕ → List ℕ → ℕ → ℕ → Decided
 maybePersist l settled pending i t = decideUnless (broken l settled pending) (yesIf (mayPersist l settled i t) (withPersisted l i))

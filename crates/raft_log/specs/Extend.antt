@@ -1,6 +1,6 @@
 -- `append` of document 01: "the cut above from its own first index, no term compared; answers the new last. An empty run answers last. `persisted` is untouched."
 -- A reader must know: `extendAnswer` is the answer with the whole new log, its refusals one ordered table; `extendStore` is the pending store after it.
-use Prim.Native.Nat.{ℕ, _+_, _-_, min}
+use Prim.Native.Nat.{ℕ, _+_, _-_}
 use mathlib.Core.Bool.{Bool, true, false, not, _&&_, _||_}
 use mathlib.Core.List.{List}
 use lib.Dec.{eqb, leb, ltb}
@@ -9,7 +9,7 @@ use Rattle.units.specs.Refusals.{brokenState, misnumberedRun, zeroTerm, cutsCom
 use Rattle.raft_log.specs.declared.Log.{Log}
 use Rattle.raft_log.specs.declared.Extended.{Extended}
 use Rattle.raft_log.specs.declared.Extended.the-variants.{Last, Refused}
-use Rattle.raft_log.specs.Words.{room, runCount, runIndex, putRun}
+use Rattle.raft_log.specs.Words.{runCount, runIndex, putRun}
 use Rattle.raft_log.specs.State.{lastOf, broken}
 use Rattle.raft_log.specs.Run.{misnumbered, zeroTermIn}
 use Rattle.raft_log.specs.Append.{cutLog, overfull, storeIf}
@@ -19,11 +19,11 @@ use lib.ListN.{length}
 abbrev pub firstOf : List ℕ → ℕ
 firstOf run = runIndex run 0
 
--- The log after a run whose first index is `first`.
+-- The log after a run whose first index is `first`: "the cut above from its own first index", and persisted untouched.
 abbrev pub extended : Log → ℕ → ℕ → Log
 extended l first n = cutLog l first (first + n - 1) (l .persisted .0)
 
--- 2: "run length not a multiple of three, indices not rising by one ..", from its own first index; "`append` starting at 0"; "its last index above the limit". (An empty run has no first index.)
+-- 2: "run length not a multiple of three, indices not rising by one .., `append` starting at 0, or .. (for `append` its last index) above the limit". They rise from its own first index; an empty run has none.
 abbrev pub badRun : List ℕ → Bool
 badRun run = not (eqb (length run) 0) && (eqb (firstOf run) 0 || misnumbered run (firstOf run - 1))
 
@@ -31,13 +31,15 @@ badRun run = not (eqb (length run) 0) && (eqb (firstOf run) 0 || misnumbered run
 abbrev pub startsCommitted : Log → ℕ → Bool
 startsCommitted l first = leb first (l .committed .0)
 
--- 8: "`append` leaving a gap" (before 7) "or starting at or below persisted" (after it)
+-- 8: "`append` leaving a gap", which comes before 7
 abbrev pub leavesGap : Log → ℕ → Bool
 leavesGap l first = ltb (lastOf l + 1) first
 
+-- 8: "`append` .. starting at or below persisted", which comes after it
 abbrev pub startsPersisted : Log → ℕ → Bool
 startsPersisted l first = leb first (l .persisted .0)
 
+-- The refusal where the test says yes, else the answer.
 abbrev pub refuseIf : Bool → ℕ → Extended → Extended
 refuseIf true number answer = Refused number
 refuseIf false number answer = answer
@@ -51,11 +53,12 @@ extendFrom l pending first n =
     (refuseIf (startsPersisted l first) outOfRange
     (Last (indexOf (first + n - 1)) (extended l first n)))))
 
+-- The first where the run is empty, else the second.
 abbrev pub unlessEmpty : Bool → Extended → Extended → Extended
 unlessEmpty true a b = a
 unlessEmpty false a b = b
 
--- THE PROMISE of `append`.
+-- THE PROMISE of `append`: "answers the new last. An empty run answers last."
 unfoldable pub extendAnswer : Log → List ℕ → List ℕ → List ℕ → Extended
 extendAnswer l settled pending run =
     refuseIf (broken l settled pending) brokenState

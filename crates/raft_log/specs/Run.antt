@@ -1,6 +1,6 @@
 -- What refusals 2 and 3 say of a run. A reader must know: `misnumbered` and `zeroTermIn` are the two tests; `idx` is the index that the run follows on.
-use Prim.Native.Nat.{ℕ, _+_, _-_, _%_}
-use mathlib.Core.Bool.{Bool, true, false, not, _&&_, _||_}
+use Prim.Native.Nat.{ℕ, _+_, _%_}
+use mathlib.Core.Bool.{Bool, true, false, not, _&&_}
 use mathlib.Core.List.{List}
 use lib.Dec.{eqb, leb}
 use lib.ListN.{length}
@@ -10,41 +10,47 @@ use Rattle.raft_log.specs.declared.run.Checked.{Checked}
 use Rattle.raft_log.specs.declared.run.Checked.the-variants as checked
 use Rattle.raft_log.specs.Words.{runWords, runCount, runIndex, runTerm, none, pick}
 
--- Record k does not have the index that its place after idx asks; its term is 0.
+-- Record k does not have the index that its place after idx asks.
 abbrev pub misplaced : List ℕ → ℕ → ℕ → Bool
 misplaced run idx k = not (eqb (runIndex run k) (idx + 1 + k))
 
+-- The term of record k is 0.
 abbrev pub zeroAt : List ℕ → ℕ → Bool
 zeroAt run k = eqb (runTerm run k) 0
 
--- Refusal 2 of a run after idx: "run length not a multiple of three, indices not rising by one from idx + 1, .. or idx + count .. above the limit".
+-- No part of refusal 2 holds of a run after idx: "run length not a multiple of three, indices not rising by one from idx + 1, .. or idx + count .. above the limit".
 unfoldable pub numbered : List ℕ → ℕ → Bool
 numbered run idx =
     eqb (length run % runWords) 0
     && leb (idx + runCount run) indexLimit
     && none (misplaced run idx) (runCount run)
 
+-- Refusal 2 of a run after idx.
 abbrev pub misnumbered : List ℕ → ℕ → Bool
 misnumbered run idx = not (numbered run idx)
 
--- Refusal 3 of a run: "a zero term in a run".
+-- No record of a run has term 0.
 unfoldable pub termsSet : List ℕ → Bool
 termsSet run = none (zeroAt run) (runCount run)
 
+-- Refusal 3 of a run: "a zero term in a run".
 abbrev pub zeroTermIn : List ℕ → Bool
 zeroTermIn run = not (termsSet run)
 
--- Inner: what the code's one pass over a run finds, as a number, and the check of a run by it.
+-- Inner: what the code's one pass over a run finds, as a number.
 unfoldable pub scanRun : List ℕ → ℕ → ℕ → ℕ
 scanRun run idx n = pick (none (misplaced run idx) n) (pick (none (zeroAt run) n) 0 zeroTerm) misnumberedRun
 
+-- Inner: what was checked so far, or a refusal where the test fails.
 abbrev pub orRefuse : Bool → ℕ → Checked → Checked
 orRefuse true number c = c
 orRefuse false number c = checked.Refused number
 
+-- Inner: the check of a run, 2 before 3, or how many records it has.
 unfoldable pub checkRun : List ℕ → ℕ → Checked
 checkRun run idx = orRefuse (numbered run idx) misnumberedRun (orRefuse (termsSet run) zeroTerm (checked.Records (runCount run)))
 
+-- Inner: the number of a check, 0 where it refuses nothing.
 abbrev pub refusedBy : Checked → ℕ
 refusedBy (checked.Records n) = 0
 refusedBy (checked.Refused number) = number

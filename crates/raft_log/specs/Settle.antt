@@ -1,7 +1,7 @@
 -- `stable_entries` of document 01: "pending's last record must be (i, t); pending is copied to settled .. and offset becomes i + 1".
 -- A reader must know: `settleAnswer` is the answer with the whole new log; `settleStore` is the settled store after it.
 use Prim.Native.Nat.{ℕ, _+_, _-_, _*_}
-use mathlib.Core.Bool.{Bool, true, false, not, _&&_}
+use mathlib.Core.Bool.{Bool, not, _&&_}
 use mathlib.Core.List.{List}
 use lib.Dec.{eqb, ltb}
 use lib.Seq.{paste}
@@ -14,7 +14,7 @@ use Rattle.raft_log.specs.State.{lastOf, broken, termAt}
 use Rattle.raft_log.specs.Append.{withPending}
 use Rattle.raft_log.specs.Commit.{refuseIf}
 
--- The log with nothing pending any more.
+-- The log with nothing pending any more: "offset becomes i + 1".
 abbrev pub settledLog : Log → Log
 settledLog l = withPending l (lastOf l + 1) 0 (l .persisted .0)
 
@@ -22,7 +22,7 @@ settledLog l = withPending l (lastOf l + 1) 0 (l .persisted .0)
 abbrev pub settledOverfull : Log → List ℕ → Bool
 settledOverfull l settled = ltb (room settled) (lastOf l - l .start .0)
 
--- 10: "`stable_entries` with nothing pending or another last record"
+-- "pending's last record must be (i, t)", else 10: "`stable_entries` with nothing pending or another last record"
 abbrev pub isLast : Log → List ℕ → List ℕ → ℕ → ℕ → Bool
 isLast l settled pending i t = not (eqb (l .count) 0) && eqb i (lastOf l) && eqb (termAt l settled pending i) t
 
@@ -33,7 +33,7 @@ settleAnswer l settled pending i t =
     (refuseIf (settledOverfull l settled) noRoom
     (refuseIf (not (isLast l settled pending i t)) notPending (changed.Now (settledLog l))))
 
--- The settled store after an answer: the pending records' words behind its own; every other word as it was.
+-- The settled store after an answer: "pending is copied to settled", behind its own records; every other word as it was.
 unfoldable pub settleStore : Changed → Log → List ℕ → List ℕ → List ℕ
 settleStore (changed.Refused number) l settled pending = settled
 settleStore (changed.Now after) l settled pending = paste settled ((l .offset .0 - 1 - l .start .0) * recordWords) pending (l .count * recordWords)

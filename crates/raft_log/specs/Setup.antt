@@ -1,6 +1,6 @@
 -- Set-up, `new`: handed the start (index, term), the last settled index and both stores. A reader must know: refusal 1 where they break the state rules, then 3 for a zero term in settled.
 use Prim.Native.Nat.{ℕ, _+_, _-_}
-use mathlib.Core.Bool.{Bool, true, false, not, _&&_}
+use mathlib.Core.Bool.{Bool, not, _&&_}
 use mathlib.Core.List.{List}
 use lib.Dec.{eqb, leb}
 use Rattle.units.specs.Units.{indexOf, termOf, indexLimit}
@@ -32,14 +32,15 @@ setupOk start startterm last settled =
     && leb last indexLimit
     && leb (last - start) (room settled)
 
--- "Set-up (`new`) also checks that settled terms are nonzero": of its first n records.
+-- Record k of settled has term 0.
 abbrev pub zeroTermAt : List ℕ → ℕ → Bool
 zeroTermAt settled k = eqb (storeTerm settled k) 0
 
+-- "Set-up (`new`) also checks that settled terms are nonzero": one of its first n records has term 0.
 abbrev pub settledZero : List ℕ → ℕ → Bool
 settledZero settled n = not (none (zeroTermAt settled) n)
 
--- THE PROMISE of `new`.
+-- THE PROMISE of `new`: 1, then 3, "a zero term .. in settled at set-up", else the log above.
 unfoldable pub setupAnswer : ℕ → ℕ → ℕ → List ℕ → Changed
 setupAnswer start startterm last settled =
     refuseIf (not (setupOk start startterm last settled)) brokenState

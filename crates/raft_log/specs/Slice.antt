@@ -14,6 +14,7 @@ use Rattle.raft_log.specs.Words.{recordWords, room}
 use Rattle.raft_log.specs.State.{lastOf, broken}
 use Rattle.raft_log.specs.Look.{isUnless}
 
+-- The first bounds where the test says yes, else the second.
 abbrev pub boundsIf : Bool → Bounds → Bounds → Bounds
 boundsIf true a b = a
 boundsIf false a b = b
@@ -41,13 +42,15 @@ entriesBounds l settled pending i =
     boundsIf (broken l settled pending) (bounds.Refused brokenState)
     (boundsIf (ltb (lastOf l) i) bounds.Empty (sliceIn l i (lastOf l + 1)))
 
--- "min(committed, persisted) + 1 > max(s + 1, start + 1). For s = u64::MAX we answer no (added)."
+-- Where the range of `next_entries_since(s)` begins: "max(s + 1, start + 1)".
 abbrev pub nextLow : Log → ℕ → ℕ
 nextLow l s = max (s + 1) (l .start .0 + 1)
 
+-- Where it ends: "min(committed, persisted) + 1".
 abbrev pub nextHigh : Log → ℕ
 nextHigh l = min (l .committed .0) (l .persisted .0) + 1
 
+-- "min(committed, persisted) + 1 > max(s + 1, start + 1). For s = u64::MAX we answer no (added)."
 unfoldable pub hasNext : Log → ℕ → Bool
 hasNext l s = ltb s wordMax && ltb (nextLow l s) (nextHigh l)
 
@@ -61,6 +64,7 @@ nextBounds l settled pending s =
     boundsIf (broken l settled pending) (bounds.Refused brokenState)
     (boundsIf (hasNext l s) (inStore l (nextLow l s) (nextHigh l)) bounds.Empty)
 
+-- The words where the test says yes, else none.
 abbrev pub wordsIf : Bool → List ℕ → List ℕ
 wordsIf true ws = ws
 wordsIf false ws = []
@@ -71,7 +75,7 @@ storePart store first low high =
     wordsIf (leb first low && leb low high && leb (high - first) (room store))
     (take ((high - first) * recordWords - (low - first) * recordWords) (drop ((low - first) * recordWords) store))
 
--- THE PROMISE of `slice`, `entries` and `next_entries_since`: the part that the bounds name, "empty where the first refuses".
+-- THE PROMISE of `slice`, `entries` and `next_entries_since`: the part that the bounds name, "empty where the first refuses". "A run is a part of whichever store holds it, settled or pending, never a copy."
 unfoldable pub partOf : Bounds → Log → List ℕ → List ℕ → List ℕ
 partOf bounds.Empty l settled pending = []
 partOf (bounds.Settled low high) l settled pending = storePart settled (l .start .0 + 1) (low .0) (high .0)

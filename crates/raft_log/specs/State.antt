@@ -34,6 +34,7 @@ stateOk l settled pending =
     && leb (l .count) (room pending)
     && leb (lastOf l) indexLimit
 
+-- The same rules as facts, one a line, which inner functions require.
 pub record Good (l : Log) (settled pending : List ℕ) : Type 0 where
   pub starts : agree (eqb (l .start .0) 0) (eqb (l .startterm .0) 0) ≡ true
   pub start≤applied : l .start .0 ≤ l .applied .0
@@ -47,7 +48,7 @@ pub record Good (l : Log) (settled pending : List ℕ) : Type 0 where
   pub pending-room : l .count ≤ room pending
   pub last≤limit : lastOf l ≤ indexLimit
 
--- Refusal 1.
+-- Refusal 1: "state rules or store lengths broken".
 abbrev pub broken : Log → List ℕ → List ℕ → Bool
 broken l settled pending = not (stateOk l settled pending)
 

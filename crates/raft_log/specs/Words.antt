@@ -23,16 +23,19 @@ room s = length s / recordWords
 abbrev pub storeTerm : List ℕ → ℕ → ℕ
 storeTerm s k = getD s (k * recordWords) 0
 
--- How many whole records a run has, and the index, the term and the body of record k.
+-- How many whole records a run has.
 abbrev pub runCount : List ℕ → ℕ
 runCount run = length run / runWords
 
+-- The index of record k of a run.
 abbrev pub runIndex : List ℕ → ℕ → ℕ
 runIndex run k = getD run (k * runWords) 0
 
+-- The term of record k of a run.
 abbrev pub runTerm : List ℕ → ℕ → ℕ
 runTerm run k = getD run (k * runWords + 1) 0
 
+-- The body of record k of a run.
 abbrev pub runBody : List ℕ → ℕ → ℕ
 runBody run k = getD run (k * runWords + 2) 0
 
@@ -49,6 +52,7 @@ unfoldable pub putRun : List ℕ → ℕ → List ℕ → ℕ → ℕ → List �
 putRun s at run k zero = s
 putRun s at run k (suc n) = putRun (putRecord s at (recordOf run k)) (at + 1) run (k + 1) n
 
+-- The first number where the test says yes, else the second.
 abbrev pub pick : Bool → ℕ → ℕ → ℕ
 pick true a b = a
 pick false a b = b

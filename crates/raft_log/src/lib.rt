@@ -9,7 +9,6 @@ mod words;
 use append::append_answer;
 use append::extend_answer;
 use state::last_of;
-use state::smaller;
 use state::state_ok;
 use state::term_at;
 use units::Index;
@@ -19,6 +18,7 @@ use units::refusal::NO_ROOM;
 use units::refusal::NOT_PENDING;
 use units::refusal::OUT_OF_RANGE;
 use units::refusal::ZERO_TERM;
+use units::smaller;
 use words::store_term;
 ghost use mathlib.Core.Path.{_≡_};
 ghost use Prim.Native.Nat.{_+_, _-_, _≤_, _<_};
@@ -477,7 +477,7 @@ fn part<'a>(log: Log, settled: &'a [u64], pending: &'a [u64], bounds: Bounds) ->
 fn settled_part(settled: &[u64], start: u64, low: u64, high: u64) -> &[u64]
     ensures { λ r. ⌜ now r ≡ storePart (now (settled .entry)) (start + 1) low high ⌝ }
 {
-    if start == 0xffff_ffff_ffff_ffff {
+    if start == u64::MAX {
         return &settled[..0];
     }
     reads::store_part(settled, start + 1, low, high)

@@ -4,12 +4,12 @@ use crate::ByTerm;
 use crate::Log;
 use crate::state::larger;
 use crate::state::last_of;
-use crate::state::smaller;
 use crate::state::term_at;
 use units::Index;
 use units::Term;
 use units::refusal::BELOW_FIRST;
 use units::refusal::OUT_OF_RANGE;
+use units::smaller;
 ghost use mathlib.Core.Path.{_≡_};
 ghost use Prim.Native.Nat.{_+_, _≤_, _<_, _^_};
 ghost use lib.ListN.{length};
@@ -90,7 +90,7 @@ pub fn has_next(log: Log, settled: &[u64], pending: &[u64], s: u64) -> bool
     ensures { λ r. ⌜ r ≡ hasNext log s ⌝ }
 {
     let end = smaller(log.committed.0, log.persisted.0);
-    if s == 0xffff_ffff_ffff_ffff {
+    if s == u64::MAX {
         return false;
     }
     larger(s + 1, log.start.0 + 1) < end + 1

@@ -3,15 +3,9 @@ use crate::Log;
 use crate::words::store_term;
 use units::Index;
 ghost use mathlib.Core.Path.{_≡_};
-ghost use Prim.Native.Nat.{_+_, _-_, _≤_, _<_, min, max};
+ghost use Prim.Native.Nat.{_+_, _-_, _≤_, _<_, max};
 ghost use lib.Dec.{eqb};
 ghost use Rattle.raft_log.specs.State.{Good, agree, stateOk, termAt, lastOf};
-
-pub fn smaller(a: u64, b: u64) -> u64
-    ensures { λ r. ⌜ r ≡ min a b ⌝ }
-{
-    if a < b { a } else { b }
-}
 
 pub fn larger(a: u64, b: u64) -> u64
     ensures { λ r. ⌜ r ≡ max a b ⌝ }

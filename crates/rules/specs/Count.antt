@@ -3,10 +3,12 @@ use Prim.Native.Nat.{ℕ, suc}
 use mathlib.Core.Bool.{Bool, true, false}
 use mathlib.Core.List.{List, [], _∷_}
 
+-- One more where the test says yes.
 abbrev pub one-more-if : Bool → ℕ → ℕ
 one-more-if true n = suc n
 one-more-if false n = n
 
+-- How many elements of a list pass a test.
 unfoldable pub count : {A : Type 0} → (A → Bool) → List A → ℕ
 count p [] = 0
 count p (x ∷ xs) = one-more-if (p x) (count p xs)

@@ -12,6 +12,7 @@ pub record Entry : Type 0 where
   pub term : ℕ
   pub body : ℕ
 
+-- What is read where there is no record. 01, `term(i)`: "0 outside [start, last]".
 abbrev pub nothing : Entry
 nothing = record { term = 0; body = 0 }
 
@@ -35,6 +36,7 @@ entry-at l i =
 abbrev pub term-of : Log → ℕ → ℕ
 term-of l i = entry-at l i .term
 
+-- The body at an index; 0 at the start and outside the log.
 abbrev pub body-of : Log → ℕ → ℕ
 body-of l i = entry-at l i .body
 
@@ -42,7 +44,7 @@ body-of l i = entry-at l i .body
 abbrev pub Holds : Log → ℕ → Type 0
 Holds l i = (l .start ≤ i) × (i ≤ last l)
 
--- The two logs have the same record at i. Where i is the start of one, terms alone are compared.
+-- The two logs have the same record at i. Where i is the start of one, terms alone are compared: 01, "the start counts as a held record, compared by index and term alone".
 pub record Same (a b : Log) (i : ℕ) : Type 0 where
   pub terms : term-of a i ≡ term-of b i
   pub bodies : a .start < i → b .start < i → body-of a i ≡ body-of b i
@@ -52,7 +54,7 @@ unfoldable pub Matching : Log → Log → Type 0
 Matching a b =
     (i : ℕ) → Holds a i → Holds b i → term-of a i ≡ term-of b i → (j : ℕ) → j ≤ i → Holds a j → Holds b j → Same a b j
 
--- Both reach k, and from a's start up to k, a has exactly b's records.
+-- Both reach k, and from a's start up to k, a has exactly b's records. The request: "from its start to there the follower then holds exactly the leader's records".
 pub record Agree (a b : Log) (k : ℕ) : Type 0 where
   pub here : Holds a k
   pub there : k ≤ last b

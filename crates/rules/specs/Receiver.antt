@@ -27,6 +27,7 @@ with-entries l es = record { start = l .start; start-term = l .start-term; entri
 unfoldable pub contains : Log → ℕ → ℕ → Bool
 contains l i t = leb (l .start) i && leb i (last l) && eqb (term-of l i) t
 
+-- "Reply false" where the log does not contain it, else what the other steps answer.
 abbrev pub step-2 : Bool → Answer → Answer
 step-2 true answer = answer
 step-2 false answer = reply-false
@@ -39,11 +40,12 @@ conflicts l i e = ltb (l .start) i && leb i (last l) && not (eqb (e .term) (term
 abbrev pub delete-from : Log → ℕ → Log
 delete-from l i = with-entries l (take (i - l .start - 1) (l .entries))
 
+-- Deleted from there on where there is a conflict, else kept.
 abbrev pub delete-if : Bool → Log → ℕ → Log → Log
 delete-if true l i kept = delete-from l i
 delete-if false l i kept = kept
 
--- The new ones are at i, i + 1, ..
+-- Step 3 for the new ones at i, i + 1, ..: the first that conflicts deletes, and then no later one has an existing entry to conflict with.
 unfoldable pub step-3 : Log → ℕ → List Entry → Log
 step-3 l i [] = l
 step-3 l i (e ∷ es) = delete-if (conflicts l i e) l i (step-3 l (i + 1) es)
@@ -52,11 +54,12 @@ step-3 l i (e ∷ es) = delete-if (conflicts l i e) l i (step-3 l (i + 1) es)
 unfoldable pub step-4 : Log → ℕ → List Entry → Log
 step-4 l prev es = with-entries l (l .entries ++ drop (last l - prev) es)
 
--- Step 5: "If leaderCommit > commitIndex, set commitIndex = min(leaderCommit, index of last new entry)".
+-- The new commitIndex where the test says so, else the old one.
 abbrev pub commit-if : Bool → ℕ → ℕ → ℕ
 commit-if true new old = new
 commit-if false new old = old
 
+-- Step 5: "If leaderCommit > commitIndex, set commitIndex = min(leaderCommit, index of last new entry)".
 unfoldable pub step-5 : ℕ → ℕ → ℕ → ℕ
 step-5 commit-index leader-commit last-new = commit-if (ltb commit-index leader-commit) (min leader-commit last-new) commit-index
 

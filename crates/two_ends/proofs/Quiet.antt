@@ -7,7 +7,7 @@ use native.Mathlib.Omega.{arith}
 use lib.Dec.{eqb, ltb}
 use Rattle.units.specs.Refusals.{brokenState, outOfRange}
 use Rattle.units.specs.declared.Index.{Index}
-use Rattle.rules.specs.Log.{Entry, nothing, Log as Abstract, entry-at, Matching, Agree}
+use Rattle.rules.specs.Log.{Entry, Log as Abstract, entry-at, Matching, Agree}
 use Rattle.raft_log.specs.declared.Log.{Log}
 use Rattle.raft_log.specs.declared.Changed.{Changed}
 use Rattle.raft_log.specs.declared.Changed.the-variants as changed

@@ -25,14 +25,16 @@ pub record Round (xs : List Entry) (commit : ℕ) : Type 0 where
   pub besides : Besides xs commit others
 
 module _ {xs : List Entry} {commit : ℕ} where
+  -- How many records the rounds send.
   unfoldable pub total : List (Round xs commit) → ℕ
   total [] = 0
   total (r ∷ rs) = r .count + total rs
 
-  -- The round's message, where the records up to idx have been sent; and all that happens in the rounds from there on.
+  -- The round's message, where the records up to idx have been sent.
   abbrev pub next : ℕ → Round xs commit → Message
   next idx r = cut xs idx (r .count) commit
 
+  -- All that happens in the rounds from there on.
   unfoldable pub sending : ℕ → List (Round xs commit) → List Event
   sending idx [] = []
   sending idx (r ∷ rs) = arrives (next idx r) ∷ r .others ++ sending (idx + r .count) rs
@@ -52,6 +54,7 @@ pub record CaughtUp (xs : List Entry) (commit : ℕ) (f g : Follower) : Type 0 w
   pub commits : committed g ≡ max (committed f) (min commit (length xs))
   pub as-leader : committed f ≤ commit → commit ≤ length xs → committed g ≡ commit
 
+-- THE STATEMENT, for a receiver: the rounds send all that is left, and there is room for each message; then each is accepted, naming its last index, and the follower has caught up.
 unfoldable pub CatchUp : Receiver → Type 0
 CatchUp rcv =
     (xs : List Entry) (f : Follower) → Premises xs f → (commit : ℕ) (rounds : List (Round xs commit))

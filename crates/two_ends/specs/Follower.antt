@@ -22,6 +22,7 @@ use Rattle.raft_log.specs.Settle.{settleAnswer, settleStore}
 use Rattle.raft_log.specs.Setup.{setupAnswer}
 use Rattle.log_laws.specs.View.{view-of}
 
+-- A follower: the state of its log, and the words of both stores. 01: "Two lent stores of u64".
 pub record Follower : Type 0 where
   pub log : Log
   pub settled : List ℕ
@@ -31,22 +32,26 @@ pub record Follower : Type 0 where
 abbrev pub held : Follower → Abstract
 held f = view-of (f .log) (f .settled) (f .pending)
 
+-- How far it holds its records as committed.
 abbrev pub committed : Follower → ℕ
 committed f = f .log .committed .0
 
--- The state that an answer carries; where it carries none, nothing changed.
+-- The state after an answer of `maybe_append`: the one it carries; where it carries none, nothing changed.
 abbrev pub logAppended : Appended → Log → Log
 logAppended (appended.Done conflict last after) before = after
 logAppended (appended.Refused number) before = before
 
+-- The state after an answer of `append`.
 abbrev pub logExtended : Extended → Log → Log
 logExtended (extended.Last last after) before = after
 logExtended (extended.Refused number) before = before
 
+-- The state after an answer of `commit_to`, `applied_to` or `stable_entries`.
 abbrev pub logChanged : Changed → Log → Log
 logChanged (changed.Now after) before = after
 logChanged (changed.Refused number) before = before
 
+-- The state after an answer of `maybe_commit` or `maybe_persist`.
 abbrev pub logDecided : Decided → Log → Log
 logDecided (decided.Yes after) before = after
 logDecided decided.No before = before
@@ -65,7 +70,7 @@ pub record Message : Type 0 where
 abbrev pub last-index : Message → ℕ
 last-index m = m .idx + runCount (m .run)
 
--- Neither refusal 2 nor 3 is given to it.
+-- "a well-formed message": neither refusal 2 nor 3 is given to it.
 abbrev pub WellFormed : Message → Type 0
 WellFormed m = (misnumbered (m .run) (m .idx) ≡ false) × (zeroTermIn (m .run) ≡ false)
 
@@ -78,25 +83,29 @@ pub record Outcome : Type 0 where
 abbrev pub Receiver : Type 0
 Receiver = Follower → Message → Outcome
 
--- THE ENGINE'S: the answer and the pending store that `maybe_append` promises.
+-- The answer that `maybe_append` promises.
 abbrev pub answer-to : Follower → Message → Appended
 answer-to f m = appendAnswer (f .log) (f .settled) (f .pending) (m .idx) (m .term) (m .commit) (m .run)
 
+-- An answer, and the follower after it: its pending store is the one that `maybe_append` promises beside that answer.
 abbrev pub outcome-of : Follower → Message → Appended → Outcome
 outcome-of f m a = record { answer = a; follower = record { log = logAppended a (f .log); settled = f .settled; pending = appendStore a (f .pending) (m .idx) (m .run) } }
 
+-- THE ENGINE'S way to take a message in: what `maybe_append` promises.
 unfoldable pub engine : Receiver
 engine f m = outcome-of f m (answer-to f m)
 
--- Room is the table's rule 7: pending after the call is not longer than its store. `alike` of the message's records come before the first that differs from what is held.
+-- So many of the message's records come before the first that differs from what is held.
 abbrev pub alike : Follower → Message → ℕ
 alike f m = firstFrom (differs (f .log) (f .settled) (f .pending) (m .idx) (m .run)) 0 (runCount (m .run))
 
+-- "and has room": the table's rule 7, "pending after the call longer than its store", does not hold.
 abbrev pub HasRoom : Follower → Message → Type 0
 HasRoom f m = overfull (afterMessage (f .log) (m .idx) (runCount (m .run)) (alike f m) (m .commit)) (f .pending) ≡ false
 
 -- ---- what the follower does between messages: "the follower only reads, settles, persists and applies", by any arguments
 
+-- What it may do. The arguments of a call are any numbers; that the call is refused is one of the things that may happen.
 pub data Between : Type 0 where
   -- stable_entries(i, t)
   settles : ℕ → ℕ → Between
@@ -107,6 +116,7 @@ pub data Between : Type 0 where
   -- any call that answers no log: they take the state by value and the stores to read
   reads : Between
 
+-- The follower with another state and the same stores.
 abbrev pub with-log : Follower → Log → Follower
 with-log f l = record { log = l; settled = f .settled; pending = f .pending }
 
@@ -114,6 +124,7 @@ with-log f l = record { log = l; settled = f .settled; pending = f .pending }
 abbrev pub settled-by : Follower → Changed → Follower
 settled-by f a = record { log = logChanged a (f .log); settled = settleStore a (f .log) (f .settled) (f .pending); pending = f .pending }
 
+-- The follower after what it does.
 unfoldable pub does : Follower → Between → Follower
 does f (settles i t) = settled-by f (settleAnswer (f .log) (f .settled) (f .pending) i t)
 does f (persists i t) = with-log f (logDecided (maybePersist (f .log) (f .settled) (f .pending) i t) (f .log))
@@ -122,14 +133,17 @@ does f reads = f
 
 -- ---- what happens at the follower, and the follower after it, the first first
 
+-- A message arrives, or the follower does something between two.
 pub data Event : Type 0 where
   arrives : Message → Event
   between : Between → Event
 
+-- The follower after one event.
 abbrev pub step : Receiver → Follower → Event → Follower
 step rcv f (arrives m) = rcv f m .follower
 step rcv f (between b) = does f b
 
+-- The follower after several events, the first first.
 unfoldable pub follow : Receiver → Follower → List Event → Follower
 follow rcv f [] = f
 follow rcv f (e ∷ es) = follow rcv (step rcv f e) es
@@ -140,6 +154,7 @@ follow rcv f (e ∷ es) = follow rcv (step rcv f e) es
 abbrev pub extended-by : Follower → List ℕ → Extended → Follower
 extended-by f run a = record { log = logExtended a (f .log); settled = f .settled; pending = extendStore a (f .pending) run }
 
+-- What set-up makes, and what each call makes of what was made; the calls that only look change nothing.
 pub data Made : Follower → Type 0 where
   set-up : (start startterm last : ℕ) (settled pending : List ℕ) (l : Log) → setupAnswer start startterm last settled ≡ changed.Now l → Made (record { log = l; settled = settled; pending = pending })
   by-maybe-append : (f : Follower) → Made f → (m : Message) → Made (engine f m .follower)

@@ -23,6 +23,7 @@ records-after xs idx n = take n (drop idx xs)
 unfoldable pub cut : List Entry → ℕ → ℕ → ℕ → Message
 cut xs idx n commit = record { idx = idx; term = term-of (whole-list xs) idx; commit = commit; run = as-run (idx + 1) (records-after xs idx n) }
 
+-- "messages cut from it": the message is the cut of so many records, all of which the list has.
 pub record CutFrom (xs : List Entry) (m : Message) : Type 0 where
   pub count : ℕ
   pub inside : m .idx + count ≤ length xs

@@ -20,6 +20,7 @@ use Rattle.two_ends.specs.Leader.{cut}
 
 -- ---- two ends
 
+-- A record, by its term and its body.
 abbrev pub entry : ℕ → ℕ → Entry
 entry t b = record { term = t; body = b }
 
@@ -43,6 +44,7 @@ log-with offset count committed persisted = record {
 abbrev pub settled-words : List ℕ
 settled-words = 1 ∷ 11 ∷ 1 ∷ 12 ∷ 1 ∷ 99 ∷ 0 ∷ 0 ∷ []
 
+-- The follower that has these settled.
 abbrev pub follower : Follower
 follower = record { log = log-with 4 0 1 3; settled = settled-words; pending = 1 ∷ 99 ∷ 0 ∷ 0 ∷ [] }
 
@@ -50,16 +52,19 @@ follower = record { log = log-with 4 0 1 3; settled = settled-words; pending = 1
 abbrev pub late : Follower
 late = record { log = fresh 2 1 3; settled = 1 ∷ 99 ∷ []; pending = 0 ∷ 0 ∷ 0 ∷ 0 ∷ [] }
 
--- Messages of the leader's: its third record; its third and fourth; none after the first, committed up to 3; none after (0, 0).
+-- A message of the leader's: its third record.
 abbrev pub third : Message
 third = cut leader 2 1 9
 
+-- A message of the leader's: its third and fourth record.
 abbrev pub third-and-fourth : Message
 third-and-fourth = cut leader 2 2 0
 
+-- A message of the leader's: no record after the first, committed up to 3.
 abbrev pub heartbeat : Message
 heartbeat = cut leader 1 0 3
 
+-- A message of the leader's: no record after (0, 0).
 abbrev pub from-zero : Message
 from-zero = cut leader 0 0 0
 

@@ -28,10 +28,11 @@ pub record Premises (xs : List Entry) (f : Follower) : Type 0 where
   pub leader-terms : NonzeroTerms (whole-list xs)
   pub leader-limit : length xs ≤ indexLimit
 
--- "messages cut from it reach a follower lost, repeated or in any order, and between them the follower only reads, settles, persists and applies": any events, each message cut from the list, or malformed.
+-- A message that may arrive: "cut from it", or malformed. (Refusals 2 and 3 are for such.)
 abbrev pub Possible : List Entry → Message → Type 0
 Possible xs m = CutFrom xs m ⊎ (WellFormed m → ⊥)
 
+-- "messages cut from it reach a follower lost, repeated or in any order, and between them the follower only reads, settles, persists and applies": any events, each message one that may arrive.
 abbrev pub Trace : List Entry → List Event → Type 0
 Trace xs [] = Unit {0}
 Trace xs (arrives m ∷ es) = Possible xs m × Trace xs es

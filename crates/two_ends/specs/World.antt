@@ -13,6 +13,7 @@ use Rattle.two_ends.specs.Follower.{Follower, held, Message, WellFormed,
 use Rattle.two_ends.specs.Leader.{whole-list, cut, CutFrom}
 use Rattle.two_ends.specs.TwoEnds.{Premises, Trace, Accepts, OfMessage, Keeps}
 
+-- The two ends and the line between them.
 pub record World : Type 0 where
   -- "One leader has a whole list from index 1"
   pub list : List Entry
@@ -21,6 +22,7 @@ pub record World : Type 0 where
   -- "reach a follower"
   pub follower : Follower
 
+-- What may happen to them.
 pub data Happening : Type 0 where
   -- the list "only grows": records come at its end
   grows : List Entry → Happening
@@ -42,11 +44,12 @@ May w (sends idx n commit) = idx + n ≤ length (w .list)
 May w (meets (arrives m)) = List·Memᴰ m (w .sent) ⊎ (WellFormed m → ⊥)
 May w (meets (between b)) = Unit {0}
 
--- The world after several, the first first; and that each can happen when its turn comes.
+-- The world after several, the first first.
 unfoldable pub history : Receiver → World → List Happening → World
 history rcv w [] = w
 history rcv w (h ∷ hs) = history rcv (next rcv w h) hs
 
+-- Each of them can happen when its turn comes.
 unfoldable pub History : Receiver → World → List Happening → Type 0
 History rcv w [] = Unit {0}
 History rcv w (h ∷ hs) = May w h × History rcv (next rcv w h) hs
@@ -80,9 +83,10 @@ TheoremInTime rcv =
     let xs = history rcv later ks .list in
     History rcv w hs → History rcv now gs → History rcv later ks → Premises xs (w .follower) → InTime rcv xs (now .sent) (now .follower) (later .follower) gs
 
--- Nor does time leave anything out: from any world, whatever ys its list is to grow by, each trace of TwoEnds.antt over the grown list happens in some history.
+-- The events es happen, from w on, in some history in which the list becomes xs.
 abbrev pub Happens : Receiver → World → List Entry → List Event → Type 0
 Happens rcv w xs es = (hs : List Happening) × History rcv w hs × (history rcv w hs .list ≡ xs) × (history rcv w hs .follower ≡ follow rcv (w .follower) es)
 
+-- Nor does time leave anything out: from any world, whatever ys its list is to grow by, each trace of TwoEnds.antt over the grown list happens in some history.
 unfoldable pub EveryTraceHappens : Receiver → Type 0
 EveryTraceHappens rcv = (w : World) (ys : List Entry) (es : List Event) → Trace (w .list ++ ys) es → Happens rcv w (w .list ++ ys) es

@@ -11,9 +11,10 @@ wordMax = 2 ^ 64 - 1
 abbrev pub indexLimit : ℕ
 indexLimit = 2 ^ 64 - 2
 
--- The index, and the term, that a number stands for.
+-- THE PROMISE of `Index::new`: the index that a number stands for. 01, "State and stores": "An index can't be handed where a term is wanted: the two are separate types."
 abbrev pub indexOf : ℕ → Index
 indexOf n = record { 0 = n }
 
+-- THE PROMISE of `Term::new`: the term that a number stands for.
 abbrev pub termOf : ℕ → Term
 termOf n = record { 0 = n }

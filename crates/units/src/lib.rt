@@ -2,6 +2,7 @@
 pub mod refusal;
 
 ghost use mathlib.Core.Path.{_≡_};
+ghost use Prim.Native.Nat.{min};
 ghost use Rattle.units.specs.Units.{indexOf, termOf};
 ghost use Rattle.units.specs.Refusals.{refusalOf, bothChecks};
 
@@ -9,8 +10,8 @@ ghost use Rattle.units.specs.Refusals.{refusalOf, bothChecks};
 pub struct Index(pub u64);
 
 impl Index {
-    // The largest index of a record: u64::MAX - 1, so that the index after it is still a number.
-    pub const LIMIT: u64 = 0xffff_ffff_ffff_fffe;
+    // The largest index of a record, so that the index after it is still a number.
+    pub const LIMIT: u64 = u64::MAX - 1;
 
     // Any number: a call that is handed an index above the limit answers by its own rules.
     pub fn new(number: u64) -> Self
@@ -59,4 +60,11 @@ impl Check {
         };
         next
     }
+}
+
+// Here, since the quorums and the log both take the smaller of two indices.
+pub fn smaller(a: u64, b: u64) -> u64
+    ensures { λ r. ⌜ r ≡ min a b ⌝ }
+{
+    if a < b { a } else { b }
 }

@@ -82,6 +82,10 @@ calls! {
     35 JointIsSingleton         "joint_is_singleton"          [VOTERS, OUTGOING]             => []               []                              1
     36 JointContains            "joint_contains"              [VOTERS, OUTGOING]             => []               ["id"]                          1
     37 JointIds                 "joint_ids"                   [VOTERS, OUTGOING]             => []               []                              15
+    38 JointClear               "joint_clear"                 [VOTERS, OUTGOING]             => []               []                              2
+    39 VotersChecked            "voters_checked"              [VOTERS]                       => []               []                              0
+    40 JointChecked             "joint_checked"               [VOTERS, OUTGOING]             => []               []                              0
+    41 RowsChecked              "rows_checked"                [ROWS]                         => []               []                              0
 }
 
 /// Which of the crate's files a call comes from.
@@ -118,6 +122,11 @@ impl Call {
             11..=30 => Family::Log,
             _ => Family::Quorum,
         }
+    }
+
+    /// Whether the crate has no such call.
+    pub fn is_ours_alone(self) -> bool {
+        matches!(self, Call::VotersChecked | Call::JointChecked | Call::RowsChecked)
     }
 
     /// Whether it makes a state from nothing.
@@ -161,6 +170,10 @@ macro_rules! side {
                 Call::JointIsSingleton => side::joint_is_singleton(run, outgoing, answer),
                 Call::JointContains => side::joint_contains(run, outgoing, a, answer),
                 Call::JointIds => side::joint_ids(run, outgoing, answer),
+                Call::JointClear => side::joint_clear(run, outgoing, answer),
+                Call::VotersChecked => side::voters_checked(run),
+                Call::JointChecked => side::joint_checked(run, outgoing),
+                Call::RowsChecked => side::rows_checked(rows),
                 Call::LeaderMaybeCommit => {
                     side::leader_maybe_commit(state, settled, pending, a, run, outgoing, rows, answer)
                 }

@@ -5,7 +5,7 @@ use crate::crate_side::Reply;
 use crate::input::Input;
 use crate::panics::guarded;
 use plain::words::ROW;
-use raft_crate::{joint, AckedIndexer, HashSet, Index, MajorityConfig, VoteResult};
+use raft_crate::{joint, sizes, AckedIndexer, HashSet, Index, MajorityConfig, VoteResult};
 
 /// The peer rows, looked up by id.
 struct Rows<'a>(&'a [u64]);
@@ -81,6 +81,12 @@ fn answer(input: &Input) -> Vec<u64> {
             words.resize(plain::words::IDS, 0);
             words
         }
-        _ => unreachable!("not a call of the quorums"),
+        Call::JointClear => {
+            let mut config = both();
+            config.clear();
+            let (incoming, outgoing) = sizes(&config);
+            vec![incoming as u64, outgoing as u64]
+        }
+        _ => unreachable!("not a call of the crate's quorums"),
     }
 }

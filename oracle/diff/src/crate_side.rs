@@ -73,7 +73,7 @@ pub fn on_domain(input: &Input, sheet: &Sheet) -> bool {
 /// The parts marked added that are no refusals of their own: `append` "starting at or below persisted (the
 /// latter added)"; `maybe_commit` above last, where the crate reads term 0 ("the upper bound is added"); "for
 /// s = u64::MAX we answer no (added)". The added copying is done for the crate by its storage, the added
-/// shape of slices undone by joining them.
+/// shape of slices undone by joining them. Calls that the crate does not have are added whole.
 fn is_added(input: &Input, sheet: &Sheet) -> bool {
     let state = &input.slices[STATE];
     let [a, b, _] = input.numbers;
@@ -83,6 +83,6 @@ fn is_added(input: &Input, sheet: &Sheet) -> bool {
         Call::LogMaybeCommit => above_last_with_term_zero(a, b),
         Call::LeaderMaybeCommit => above_last_with_term_zero(crate_quorum::joint_index(input), a),
         Call::LogNextEntriesSince | Call::LogHasNextEntriesSince => a == u64::MAX,
-        _ => false,
+        call => call.is_ours_alone(),
     }
 }

@@ -81,8 +81,8 @@ deferred / ring`, a row `id has-ack ack vote`; MAX is u64::MAX. A state that bre
 call of the crate makes one.
 ";
 
-/// Whether the crate can be asked at all: a state that breaks the rules can't be made by its calls, it has no
-/// runs of part of a record, and it would allocate for a huge cap.
+/// Whether the crate can be asked at all: it does not have every call, a state that breaks the rules can't be
+/// made by its calls, it has no runs of part of a record, and it would allocate for a huge cap.
 fn can_be_asked(input: &Input, sheet: &Sheet) -> bool {
     let [a, _, c] = input.numbers;
     let whole_records =
@@ -91,7 +91,7 @@ fn can_be_asked(input: &Input, sheet: &Sheet) -> bool {
         // Set-up: where there is a storage with so many records.
         Call::LogNew => a <= c && c - a <= input.slices[SETTLED].len() as u64 / 2,
         Call::InflightsNew | Call::InflightsSetCap => sheet.refusal == 7 && a < 1000,
-        _ => !matches!(sheet.refusal, 1 | 13) && whole_records,
+        call => !call.is_ours_alone() && !matches!(sheet.refusal, 1 | 13) && whole_records,
     }
 }
 

@@ -17,6 +17,8 @@ pub struct Bounds {
 }
 
 pub fn run(ck: &mut Checker, report: &mut Report, bounds: &Bounds) -> Checked {
+    checks(ck)?;
+    report.phase("quorum: the checks and clear at the limits, and on lists of up to three ids", ck);
     everything_free(ck)?;
     report.phase("quorum: three peers, everything free", ck);
     one_half(ck, bounds.half)?;
@@ -33,13 +35,18 @@ fn row(id: u64, ack: Option<u64>, vote: u64) -> [u64; 4] {
     [id, ack.is_some() as u64, ack.unwrap_or(0), vote]
 }
 
-/// The questions about one half, then those about both.
+/// The questions about one half and the check of the rows, then the questions about both halves.
 fn ask_majority(ck: &mut Checker, input: &mut Input) -> Checked {
     for call in [Call::MajorityCommittedIndex, Call::MajorityVoteResult] {
         input.set(call, [0; 3]);
         ck.check(input)?;
     }
-    Ok(())
+    ask_rows(ck, input)
+}
+
+fn ask_rows(ck: &mut Checker, input: &mut Input) -> Checked {
+    input.set(Call::RowsChecked, [0; 3]);
+    ck.check(input)
 }
 
 fn ask_joint(ck: &mut Checker, input: &mut Input) -> Checked {
@@ -59,6 +66,15 @@ fn ask_membership(ck: &mut Checker, input: &mut Input, ids: &[u64]) -> Checked {
         input.set(Call::JointContains, [*id, 0, 0]);
         ck.check(input)?;
     }
+    ask_checks(ck, input)
+}
+
+/// The checks of one half and of both, and `clear`.
+fn ask_checks(ck: &mut Checker, input: &mut Input) -> Checked {
+    for call in [Call::VotersChecked, Call::JointChecked, Call::JointClear] {
+        input.set(call, [0; 3]);
+        ck.check(input)?;
+    }
     Ok(())
 }
 
@@ -71,6 +87,32 @@ fn subset(bits: u64) -> Vec<u64> {
 fn digits(base: u64, length: usize) -> impl Iterator<Item = Vec<u64>> {
     (0..base.pow(length as u32))
         .map(move |number| (0..length).map(|k| number / base.pow(k as u32) % base).collect())
+}
+
+/// As many voters and rows as may be, one more of each, an id twice; then lists of up to three ids of 0 to 3
+/// in every order: as one half, as both, as the ids of the rows.
+fn checks(ck: &mut Checker) -> Checked {
+    let mut input = Input::new(Call::RowsChecked);
+    let (voters, rows) = (quorum::VOTERS as u64, quorum::ROWS as u64);
+    for (more, repeated) in [(0, None), (1, None), (0, Some(0))] {
+        large(&mut input, voters + more, rows + more, repeated, repeated, 0);
+        input.slices[OUTGOING].clear();
+        ask_rows(ck, &mut input)?;
+        ask_checks(ck, &mut input)?;
+        input.slices.swap(VOTERS, OUTGOING);
+        ask_checks(ck, &mut input)?;
+    }
+    let lists: Vec<Vec<u64>> = (0..=3).flat_map(|length| digits(4, length)).collect();
+    for incoming in &lists {
+        input.set_slice(VOTERS, incoming);
+        input.slices[ROWS] = incoming.iter().flat_map(|id| row(*id, None, 0)).collect();
+        ask_rows(ck, &mut input)?;
+        for outgoing in &lists {
+            input.set_slice(OUTGOING, outgoing);
+            ask_checks(ck, &mut input)?;
+        }
+    }
+    Ok(())
 }
 
 /// Three peers: each without a row, or with any acknowledgement of 0 to 3 or none and any vote; every set of

@@ -303,6 +303,25 @@ pub fn joint_ids(incoming: &[u64], outgoing: &[u64], answer: &mut [u64]) -> u64 
     answer_into(answer, || Ok(ids_words(quorum::joint_ids(incoming, outgoing)?)))
 }
 
+pub fn joint_clear(incoming: &[u64], outgoing: &[u64], answer: &mut [u64]) -> u64 {
+    answer_into(answer, || {
+        let (incoming, outgoing) = quorum::joint_clear(incoming, outgoing)?;
+        Ok([incoming.len() as u64, outgoing.len() as u64])
+    })
+}
+
+pub fn voters_checked(voters: &[u64]) -> u64 {
+    number(quorum::voters_checked(voters))
+}
+
+pub fn joint_checked(incoming: &[u64], outgoing: &[u64]) -> u64 {
+    number(quorum::joint_checked(incoming, outgoing))
+}
+
+pub fn rows_checked(rows: &[u64]) -> u64 {
+    number(quorum::rows_checked(&peers(rows)))
+}
+
 #[allow(clippy::too_many_arguments)]
 pub fn leader_maybe_commit(
     log: &mut [u64],

@@ -45,6 +45,11 @@ pub fn joint(incoming: HashSet<u64>, outgoing: HashSet<u64>) -> JointConfig {
     JointConfig { incoming: MajorityConfig::new(incoming), outgoing: MajorityConfig::new(outgoing) }
 }
 
+/// How many ids each half has.
+pub fn sizes(config: &JointConfig) -> (usize, usize) {
+    (config.incoming.ids().len(), config.outgoing.ids().len())
+}
+
 /// A logger that writes nothing.
 pub fn silent() -> slog::Logger {
     slog::Logger::root(slog::Discard, slog::o!())

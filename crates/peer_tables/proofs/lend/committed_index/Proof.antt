@@ -1,6 +1,6 @@
 -- `lend::committed_index` meets its contract, by the walk of `Lent.antt`: what it asks is `quorum::majority::committed_index`.
 use Rattle.quorum.specs.Majority.{committedIndex}
-use Rattle.quorum.proofs.Thin.{voters, indexes}
+use Rattle.quorum.proofs.OverRows.{voters, indexes}
 use Rattle.quorum.proofs.majority.committed_index.Symbol as asked-def
 use Rattle.quorum.proofs.majority.committed_index.Met as asked-thm
 use Rattle.peer_tables.proofs.Lent as lent

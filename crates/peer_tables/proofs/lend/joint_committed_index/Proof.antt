@@ -1,6 +1,6 @@
 -- `lend::joint_committed_index` meets its contract, by the walk of `Lent.antt`: what it asks is `quorum::joint::committed_index`.
 use Rattle.quorum.specs.Joint.{jointIndex}
-use Rattle.quorum.proofs.Thin.{configs, indexes}
+use Rattle.quorum.proofs.OverRows.{configs, indexes}
 use Rattle.quorum.proofs.joint.committed_index.Symbol as asked-def
 use Rattle.quorum.proofs.joint.committed_index.Met as asked-thm
 use Rattle.peer_tables.proofs.Lent as lent

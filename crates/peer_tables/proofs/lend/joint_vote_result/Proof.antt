@@ -1,6 +1,6 @@
 -- `lend::joint_vote_result` meets its contract, by the walk of `Lent.antt`: what it asks is `quorum::joint::vote_result`.
 use Rattle.quorum.specs.Joint.{jointVerdict}
-use Rattle.quorum.proofs.Thin.{configs, verdicts}
+use Rattle.quorum.proofs.OverRows.{configs, verdicts}
 use Rattle.quorum.proofs.joint.vote_result.Symbol as asked-def
 use Rattle.quorum.proofs.joint.vote_result.Met as asked-thm
 use Rattle.peer_tables.proofs.Lent as lent

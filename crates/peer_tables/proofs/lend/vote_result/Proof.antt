@@ -1,6 +1,6 @@
 -- `lend::vote_result` meets its contract, by the walk of `Lent.antt`: what it asks is `quorum::majority::vote_result`.
 use Rattle.quorum.specs.Majority.{voteResult}
-use Rattle.quorum.proofs.Thin.{voters, verdicts}
+use Rattle.quorum.proofs.OverRows.{voters, verdicts}
 use Rattle.quorum.proofs.majority.vote_result.Symbol as asked-def
 use Rattle.quorum.proofs.majority.vote_result.Met as asked-thm
 use Rattle.peer_tables.proofs.Lent as lent

@@ -1,6 +1,7 @@
 -- `majority::committed_index` meets its contract, by the walk of `Thin.antt`: the core that it asks is `committed_index_of`.
 use Rattle.quorum.specs.Majority.{plainIndex, committedIndex}
 use Rattle.quorum.specs.declared.rows.Question.the-variants as question
+use Rattle.quorum.proofs.OverRows.{voters, indexes}
 use Rattle.quorum.proofs.Gathered.{gathered-index}
 use Rattle.quorum.proofs.Thin as thin
 use Rattle.quorum.proofs.majority.committed_index_of.Symbol as core-def
@@ -11,8 +12,8 @@ use Rattle.quorum.proofs.majority.committed_index.Code as code
 
 abbrev this : thin.Call
 this = record {
-  config = thin.voters;
-  answer = thin.indexes;
+  config = voters;
+  answer = indexes;
   question = question.Index;
   core = core-def.name;
   answered = plainIndex;

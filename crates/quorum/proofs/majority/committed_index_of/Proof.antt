@@ -1,5 +1,4 @@
 -- `majority::committed_index_of` meets its contract: the checks, and then what the one half says.
-use native.Mathlib.Omega.{arith}
 use mathlib.Core.Path.{_≡_, sym, _∙_}
 use Prim.Native.Nat.{_≤_}
 use lib.ListN.{length}
@@ -9,11 +8,10 @@ use Rattle.quorum.proofs.majority.committed_index_of.Tie as tie
 use lib.Seq.{length-take-le}
 use Rattle.units.specs.Refusals.{bothChecks}
 use Rattle.units.specs.declared.Check.the-variants as check
-use Rattle.quorum.specs.Limits.{voterLimit, rowLimit}
+use Rattle.quorum.specs.Limits.{voterLimit}
 use Rattle.quorum.specs.Rows.{plainCheck}
 use Rattle.quorum.specs.Voters.{votersCheck}
-use Rattle.quorum.proofs.Sizes.{row-ids-length, row-values-length}
-use Rattle.quorum.proofs.Checks.{handed-on, first-fine, second-fine, rows-within, voters-within}
+use Rattle.quorum.proofs.Checks.{handed-on, first-fine, ids-held, values-held, voters-within}
 use Rattle.quorum.proofs.Answers.{checks-made, index-refused, index-at}
 
 abbrev Asked : Type 0
@@ -35,14 +33,11 @@ fine c = sym (made (c .before .before)) ∙ c .enum-told .given .1
 voters-fit : (c : Passed) → start (c .before .before) .args .voters .count ≤ voterLimit
 voters-fit c = voters-within (start (c .before .before) .args .voters) (first-fine (votersCheck (start (c .before .before) .args .voters)) (plainCheck (start (c .before .before) .args .rows)) (fine c))
 
-rows-fit : (c : Passed) → start (c .before .before) .args .rows .count ≤ rowLimit
-rows-fit c = rows-within (start (c .before .before) .args .rows) (second-fine (votersCheck (start (c .before .before) .args .voters)) (plainCheck (start (c .before .before) .args .rows)) (fine c))
-
 ids-fit : (c : Passed) → start (c .before .before) .args .rows .count ≤ length (start (c .before .before) .args .rows .ids)
-ids-fit c = omega (arith, rows-fit c, row-ids-length (start (c .before .before) .args .rows) (start (c .before .before) .good .1 .0))
+ids-fit c = ids-held (votersCheck (start (c .before .before) .args .voters)) (start (c .before .before) .args .rows) (start (c .before .before) .good .1 .0) (fine c)
 
 values-fit : (c : Passed) → start (c .before .before) .args .rows .count ≤ length (start (c .before .before) .args .rows .values)
-values-fit c = omega (arith, rows-fit c, row-values-length (start (c .before .before) .args .rows) (start (c .before .before) .good .1 .0))
+values-fit c = values-held (votersCheck (start (c .before .before) .args .voters)) (start (c .before .before) .args .rows) (start (c .before .before) .good .1 .0) (fine c)
 
 checked-requires : tie.Need-checked-requires
 checked-requires c κs = search needs

@@ -1,0 +1,273 @@
+-- Wrong answers to the calls of units, quorum and peer_tables, two for each call in the order of docs/PROMISES.md: what a plausible faulty engine would give, at an input that is written out. Then whole wrong engines of document 01.
+-- A reader must know: each line says that the call's promise is not the wrong answer, and holds by computing both sides (proofs/WrongQuorum.antt).
+use Prim.Native.Nat.{ℕ, suc, _+_, _-_, _/_, min}
+use mathlib.Core.Path.{_≡_}
+use mathlib.Core.Logic.{_≢_}
+use mathlib.Core.Bool.{true, false}
+use mathlib.Core.List.{List, [], _∷_, _++_}
+use lib.ListN.{length, replicate}
+use lib.Dec.{leb}
+use Rattle.units.specs.Units.{wordMax, indexLimit, indexOf, termOf}
+use Rattle.units.specs.Refusals.{brokenState, noRoom, brokenSet, refusalOf, bothChecks}
+use Rattle.units.specs.declared.Check.the-variants as check
+use Rattle.rules.specs.Count.{count}
+use Rattle.rules.specs.Majority.{kth-largest}
+use Rattle.quorum.specs.Limits.{voterLimit, rowLimit}
+use Rattle.quorum.specs.Rows.{nobody, ackNumber, voteNumber, rowsCheck, valueFor, gathered, plainCheck}
+use Rattle.quorum.specs.Voters.{votersCheck, setOf, noVoters, made}
+use Rattle.quorum.specs.Votes.{pickResult, isYes, isMissing, resultOf, jointResult}
+use Rattle.quorum.specs.Half.{halfIndex, joined}
+use Rattle.quorum.specs.Majority.{indexUnless, resultUnless, acksOf, votesOf, committedIndex, voteResult, plainIndex, plainResult}
+use Rattle.quorum.specs.Joint.{oneSet, configCheck, jointIndex, jointVerdict, plainJointIndex, plainJointVerdict, singleton, containsOf, listed, idsAnswer}
+use Rattle.quorum.specs.declared.Committed.{Committed}
+use Rattle.quorum.specs.declared.Verdict.{Verdict}
+use Rattle.quorum.specs.declared.Verdict.the-variants as verdict
+use Rattle.quorum.specs.declared.VoteResult.{VoteResult}
+use Rattle.quorum.specs.declared.VoteResult.the-variants as result
+use Rattle.quorum.specs.declared.half.Half.{Half}
+use Rattle.quorum.specs.declared.majority.Voters.{Voters}
+use Rattle.quorum.specs.declared.majority.Made.{Made}
+use Rattle.quorum.specs.declared.joint.JointConfig.{JointConfig}
+use Rattle.quorum.specs.declared.joint.Answer.the-variants as answer
+use Rattle.quorum.specs.declared.rows.Ack.the-variants as ack
+use Rattle.quorum.specs.declared.rows.Vote.{Vote}
+use Rattle.quorum.specs.declared.rows.Vote.the-variants as vote
+use Rattle.quorum.specs.declared.rows.Peer.{Peer}
+use Rattle.quorum.specs.declared.rows.Question.the-variants as question
+use Rattle.quorum.specs.declared.rows.Rows.{Rows}
+use Rattle.peer_tables.specs.Table.{noRows, oneMore, tableIndex, tableResult, tableJointIndex, tableJointVerdict}
+use Rattle.peer_tables.specs.declared.Table.{Table}
+use Rattle.promises.specs.Cases.{idsFrom, votersFrom, acking, voting, upTo, threeAndTwo}
+
+-- ---- inputs
+
+-- A set that is taken with nothing refused.
+abbrev pub fineSet : Voters → Made
+fineSet v = record { check = check.Fine; set = v }
+
+-- A set whose count alone was made 0: the ids are left in its unused words.
+abbrev pub uncounted : Voters → Voters
+uncounted v = record { ids = v .ids; count = 0 }
+
+-- A configuration by its halves: incoming, then outgoing.
+abbrev pub halves : Voters → Voters → JointConfig
+halves incoming outgoing = record { incoming = incoming; outgoing = outgoing }
+
+-- The rows of ids from 1 on, gathered: for the index question, for the vote.
+abbrev pub ackRows : List ℕ → Rows
+ackRows acks = gathered question.Index (acking acks)
+
+abbrev pub voteRows : List Vote → Rows
+voteRows votes = gathered question.Vote (voting votes)
+
+-- Two rows of the id 1, which have acknowledged 4 and 6.
+abbrev pub twiceOne : List Peer
+twiceOne = acking (4 ∷ []) ++ acking (6 ∷ [])
+
+-- A row with something in each column.
+abbrev pub somebody : Peer
+somebody = record { id = 65; ack = ack.At (indexOf 7); vote = vote.Yes }
+
+-- A table of these rows, with so many counted; of all of them; a full one, where everybody has acknowledged 5; and one row more than it takes.
+abbrev pub tableWith : ℕ → List Peer → Table
+tableWith n rows = record { peers = rows ++ replicate (rowLimit - length rows) nobody; count = n }
+
+abbrev pub tableOf : List Peer → Table
+tableOf rows = tableWith (length rows) rows
+
+abbrev pub fullTable : Table
+fullTable = tableOf (acking (replicate rowLimit 5))
+
+abbrev pub overfull : Table
+overfull = oneMore fullTable somebody
+
+-- ---- THE TABLE: what each call does not answer.
+pub record WrongQuorum : Type 0 where
+  -- ---- units
+  -- `Index::new(5)`: the index after it, as if a place counted from 0 were handed in.
+  pub index-new-next : indexOf 5 ≢ indexOf 6
+  -- `Index::new(u64::MAX)`: cut to the limit.
+  pub index-new-cut : indexOf wordMax ≢ indexOf indexLimit
+  -- `Term::new(3)`: the term after it, as a candidate raises it.
+  pub term-new-next : termOf 3 ≢ termOf 4
+  -- `Term::new(3)`: 0, the number lost.
+  pub term-new-zero : termOf 3 ≢ termOf 0
+  -- A fine check: 1, a refusal's number.
+  pub check-refusal-of-fine : refusalOf check.Fine ≢ brokenState
+  -- Refusal 12: 0, as if the check were fine.
+  pub check-refusal-lost : refusalOf (check.Refused brokenSet) ≢ 0
+  -- 1, then 12: 12, the second refusal.
+  pub check-and-second : bothChecks (check.Refused brokenState) (check.Refused brokenSet) ≢ check.Refused brokenSet
+  -- Fine, then 12: fine, the second not asked.
+  pub check-and-first-only : bothChecks check.Fine (check.Refused brokenSet) ≢ check.Fine
+  -- The smaller of 2 and 5: the larger.
+  pub smaller-larger : min 2 5 ≢ 5
+  -- The smaller of 5 and 2: the first.
+  pub smaller-first : min 5 2 ≢ 5
+  -- ---- quorum: one voter set
+  -- The empty set: one voter, of the id 0.
+  pub voters-empty-counts : noVoters ≢ setOf (0 ∷ [])
+  -- The empty set: ids left in its unused words.
+  pub voters-empty-words : noVoters ≢ uncounted (votersFrom 1 3)
+  -- Eight ids: the first seven, with no 12.
+  pub voters-new-first-seven : made (idsFrom 1 (suc voterLimit)) ≢ fineSet (votersFrom 1 voterLimit)
+  -- 1, 2, 1: the repeated id dropped, with no 12.
+  pub voters-new-dropped : made (1 ∷ 2 ∷ 1 ∷ []) ≢ fineSet (votersFrom 1 2)
+  -- 1, 2, 1: fine, as if only neighbours were compared.
+  pub voters-checked-repeated : votersCheck (setOf (1 ∷ 2 ∷ 1 ∷ [])) ≢ check.Fine
+  -- Seven voters: 12, one too early.
+  pub voters-checked-seven : votersCheck (votersFrom 1 voterLimit) ≢ check.Refused brokenSet
+  -- Three voters, all at 5: 0. It is 5.
+  pub majority-committed-index-zero : committedIndex (votersFrom 1 3) (acking (5 ∷ 5 ∷ 5 ∷ [])) ≢ upTo 0
+  -- Four voters at 9, 7, 3, 3: 7, which half of the voters have reached. It is 3.
+  pub majority-committed-index-half : committedIndex (votersFrom 1 4) (acking (9 ∷ 7 ∷ 3 ∷ 3 ∷ [])) ≢ upTo 7
+  -- Three voters, all yes: Pending. It is Won.
+  pub majority-vote-result-pending : voteResult (votersFrom 1 3) (voting (vote.Yes ∷ vote.Yes ∷ vote.Yes ∷ [])) ≢ verdict.Stands result.Pending
+  -- Four voters, two yes, two no: Won, with half of the votes. It is Lost.
+  pub majority-vote-result-half : voteResult (votersFrom 1 4) (voting (vote.Yes ∷ vote.Yes ∷ vote.No ∷ vote.No ∷ [])) ≢ verdict.Stands result.Won
+  -- The voter 1, two rows of 1 at 4 and 6: 4, by the first row. It is 12.
+  pub majority-committed-index-of-repeated : plainIndex (votersFrom 1 1) (gathered question.Index twiceOne) ≢ upTo 4
+  -- Voters 3, 4, 5, rows of 1 to 5 at 9, 9, 9, 2, 2: 9, where each voter reads a row by its place and not by its id. It is 2.
+  pub majority-committed-index-of-by-place : plainIndex (votersFrom 3 3) (ackRows (9 ∷ 9 ∷ 9 ∷ 2 ∷ 2 ∷ [])) ≢ upTo 9
+  -- The voter 1, 65 rows, all yes: Won. It is 12.
+  pub majority-vote-result-of-too-many : plainResult (votersFrom 1 1) (voteRows (replicate (suc rowLimit) vote.Yes)) ≢ verdict.Stands result.Won
+  -- Three voters, one yes: Lost, where a missing vote is a no. It is Pending.
+  pub majority-vote-result-of-missing : plainResult (votersFrom 1 3) (voteRows (vote.Yes ∷ [])) ≢ verdict.Stands result.Lost
+  -- ---- quorum: joint configurations
+  -- Voters 1, 2, 3: put into the outgoing half.
+  pub joint-new-outgoing : oneSet (votersFrom 1 3) ≢ halves noVoters (votersFrom 1 3)
+  -- Voters 1, 2, 3: 4 and 5 left in the unused words of the outgoing half.
+  pub joint-new-words : oneSet (votersFrom 1 3) ≢ halves (votersFrom 1 3) (uncounted (votersFrom 4 2))
+  -- 1, 2, 3 and 4, 5: the outgoing half kept.
+  pub joint-clear-outgoing : oneSet noVoters ≢ halves noVoters (threeAndTwo .outgoing)
+  -- 1, 2, 3 and 4, 5: only the counts made 0.
+  pub joint-clear-words : oneSet noVoters ≢ halves (uncounted (threeAndTwo .incoming)) (uncounted (threeAndTwo .outgoing))
+  -- 1, 2, 3 and 4, 4: fine, the outgoing half not asked.
+  pub joint-checked-outgoing : configCheck (halves (votersFrom 1 3) (setOf (4 ∷ 4 ∷ []))) ≢ check.Fine
+  -- 1, 2, 3 and 3, 4: 12, where an id may not stand in both halves. It is fine.
+  pub joint-checked-in-both : configCheck (halves (votersFrom 1 3) (votersFrom 3 2)) ≢ check.Refused brokenSet
+  -- 1 and 2: yes, the outgoing half not asked.
+  pub joint-is-singleton-outgoing : singleton (halves (votersFrom 1 1) (votersFrom 2 1)) ≢ answer.Is true
+  -- 1, 1 and nobody: yes, the repeated id dropped. It is 12.
+  pub joint-is-singleton-repeated : singleton (oneSet (setOf (1 ∷ 1 ∷ []))) ≢ answer.Is true
+  -- 1, 2, 3 and 4, 5, asked for 4: no, the outgoing half not asked.
+  pub joint-contains-outgoing : containsOf threeAndTwo 4 ≢ answer.Is false
+  -- 1, 2, 3 and 4, 5, asked for 0: yes, by an unused word.
+  pub joint-contains-unused : containsOf threeAndTwo 0 ≢ answer.Is true
+  -- 1, 2, 3 and 3, 4: the 3 listed twice.
+  pub joint-ids-twice : idsAnswer (halves (votersFrom 1 3) (votersFrom 3 2)) ≢ listed check.Fine (1 ∷ 2 ∷ 3 ∷ 3 ∷ 4 ∷ [])
+  -- 4, 5 and 1, 2: one half behind the other, not in rising order.
+  pub joint-ids-order : idsAnswer (halves (votersFrom 4 2) (votersFrom 1 2)) ≢ listed check.Fine (4 ∷ 5 ∷ 1 ∷ 2 ∷ [])
+  -- Incoming at 5, 4, 3, outgoing at 3, 8: 4, the larger of 4 and 3.
+  pub joint-committed-index-larger : jointIndex threeAndTwo (acking (5 ∷ 4 ∷ 3 ∷ 3 ∷ 8 ∷ [])) ≢ upTo 4
+  -- Incoming at 5, 4, 3, nobody outgoing: 0, the empty half counted as 0. It is 4.
+  pub joint-committed-index-empty : jointIndex (oneSet (votersFrom 1 3)) (acking (5 ∷ 4 ∷ 3 ∷ [])) ≢ upTo 0
+  -- Incoming all yes, outgoing one yes and one missing: Won, the outgoing half not waited for. It is Pending.
+  pub joint-vote-result-one-half : jointVerdict threeAndTwo (voting (vote.Yes ∷ vote.Yes ∷ vote.Yes ∷ vote.Yes ∷ [])) ≢ verdict.Stands result.Won
+  -- Incoming one yes and two missing, outgoing all no: Pending, the incoming half waited for. It is Lost.
+  pub joint-vote-result-waits : jointVerdict threeAndTwo (voting (vote.Yes ∷ vote.Missing ∷ vote.Missing ∷ vote.No ∷ vote.No ∷ [])) ≢ verdict.Stands result.Pending
+  -- The same four, over gathered rows.
+  pub joint-committed-index-of-larger : plainJointIndex threeAndTwo (ackRows (5 ∷ 4 ∷ 3 ∷ 3 ∷ 8 ∷ [])) ≢ upTo 4
+  pub joint-committed-index-of-empty : plainJointIndex (oneSet (votersFrom 1 3)) (ackRows (5 ∷ 4 ∷ 3 ∷ [])) ≢ upTo 0
+  pub joint-vote-result-of-one-half : plainJointVerdict threeAndTwo (voteRows (vote.Yes ∷ vote.Yes ∷ vote.Yes ∷ vote.Yes ∷ [])) ≢ verdict.Stands result.Won
+  pub joint-vote-result-of-waits : plainJointVerdict threeAndTwo (voteRows (vote.Yes ∷ vote.Missing ∷ vote.Missing ∷ vote.No ∷ vote.No ∷ [])) ≢ verdict.Stands result.Pending
+  -- ---- quorum: peer rows
+  -- One row at 5, asked for the index: the votes gathered.
+  pub rows-gather-column : gathered question.Index (acking (5 ∷ [])) ≢ gathered question.Vote (acking (5 ∷ []))
+  -- 65 rows: 64 counted, so that nobody sees that there were more.
+  pub rows-gather-count : ackRows (replicate (suc rowLimit) 5) ≢ ackRows (replicate rowLimit 5)
+  -- Two rows of 1: fine.
+  pub rows-checked-repeated : plainCheck (gathered question.Index twiceOne) ≢ check.Fine
+  -- 65 rows: fine, by those that the array has.
+  pub rows-checked-too-many : plainCheck (ackRows (replicate (suc rowLimit) 5)) ≢ check.Fine
+  -- The row 65 at 7, yes, asked for the index: 1, its vote.
+  pub rows-value-vote : valueFor question.Index somebody ≢ voteNumber (somebody .vote)
+  -- The row 65 at 7, yes, asked for the vote: 65, its id.
+  pub rows-value-id : valueFor question.Vote somebody ≢ somebody .id
+  -- A missing acknowledgement: 1, as if the first record were there.
+  pub rows-ack-number-missing : ackNumber ack.Missing ≢ 1
+  -- At 5: 0, as if it were missing.
+  pub rows-ack-number-lost : ackNumber (ack.At (indexOf 5)) ≢ 0
+  -- A missing vote: the number of a no.
+  pub rows-vote-number-missing : voteNumber vote.Missing ≢ voteNumber vote.No
+  -- A yes: 2, with yes and no changed over.
+  pub rows-vote-number-changed : voteNumber vote.Yes ≢ 2
+  -- ---- peer_tables
+  -- The empty table: all 64 rows counted, as many as the array has.
+  pub table-empty-counts : noRows ≢ tableWith rowLimit []
+  -- The empty table: rows that have acknowledged 0, where it is missing.
+  pub table-empty-zeros : noRows ≢ record { peers = replicate rowLimit (record { id = 0; ack = ack.At (indexOf 0); vote = vote.Missing }); count = 0 }
+  -- One row into the empty table: written and not counted.
+  pub table-with-not-counted : oneMore noRows somebody ≢ tableWith 0 (somebody ∷ [])
+  -- One row into a full table: the table as it was, the row lost with no sign.
+  pub table-with-stays-full : overfull ≢ fullTable
+  -- Three voters at 5 in an overfull table: 5. It is 12.
+  pub table-committed-index-too-many : tableIndex (votersFrom 1 3) overfull ≢ upTo 5
+  -- Three voters at 5, 2, 5: 2, the last row left out. It is 5.
+  pub table-committed-index-last-row : tableIndex (votersFrom 1 3) (tableOf (acking (5 ∷ 2 ∷ 5 ∷ []))) ≢ upTo 2
+  -- An overfull table: 7, no room. It is 12.
+  pub table-vote-result-by-seven : tableResult (votersFrom 1 3) overfull ≢ verdict.Refused noRoom
+  -- Three yes, of which one row is counted: Won, by unused rows. It is Pending.
+  pub table-vote-result-unused : tableResult (votersFrom 1 3) (tableWith 1 (voting (vote.Yes ∷ vote.Yes ∷ vote.Yes ∷ []))) ≢ verdict.Stands result.Won
+  -- Both halves at 5 in an overfull table: 5. It is 12.
+  pub table-joint-committed-index-too-many : tableJointIndex threeAndTwo overfull ≢ upTo 5
+  -- Incoming at 5, 4, 3, outgoing at 3, 8: 0, the last row left out. It is 3.
+  pub table-joint-committed-index-last-row : tableJointIndex threeAndTwo (tableOf (acking (5 ∷ 4 ∷ 3 ∷ 3 ∷ 8 ∷ []))) ≢ upTo 0
+  -- An overfull table: 7, no room. It is 12.
+  pub table-joint-vote-result-by-seven : tableJointVerdict threeAndTwo overfull ≢ verdict.Refused noRoom
+  -- Five yes, of which three rows are counted: Won, by unused rows. It is Pending.
+  pub table-joint-vote-result-unused : tableJointVerdict threeAndTwo (tableWith 3 (voting (vote.Yes ∷ vote.Yes ∷ vote.Yes ∷ vote.Yes ∷ vote.Yes ∷ []))) ≢ verdict.Stands result.Won
+
+-- ---- WRONG ENGINES
+
+-- The engine with another rule for one half, for the index and for the vote: its refusals, and how it joins two halves, stay.
+abbrev pub indexBy : (List ℕ → Half) → Voters → List Peer → Committed
+indexBy rule v peers = indexUnless (bothChecks (votersCheck v) (rowsCheck peers)) (rule (acksOf peers v))
+
+abbrev pub jointIndexBy : (List ℕ → Half) → JointConfig → List Peer → Committed
+jointIndexBy rule c peers = indexUnless (bothChecks (configCheck c) (rowsCheck peers)) (joined (rule (acksOf peers (c .incoming))) (rule (acksOf peers (c .outgoing))))
+
+abbrev pub resultBy : (List Vote → VoteResult) → Voters → List Peer → Verdict
+resultBy rule v peers = resultUnless (bothChecks (votersCheck v) (rowsCheck peers)) (rule (votesOf peers v))
+
+abbrev pub jointResultBy : (List Vote → VoteResult) → JointConfig → List Peer → Verdict
+jointResultBy rule c peers = resultUnless (bothChecks (configCheck c) (rowsCheck peers)) (jointResult (rule (votesOf peers (c .incoming))) (rule (votesOf peers (c .outgoing))))
+
+-- 01, "Promises without gaps": "a quorum that answers 0".
+abbrev pub answersZero : List ℕ → Half
+answersZero acks = record { index = 0; free = false }
+
+-- "a vote that stays Pending".
+abbrev pub staysPending : List Vote → VoteResult
+staysPending votes = result.Pending
+
+-- 01, tempting mistakes: "taking n/2 as a majority". For the index; the empty set stays as it is.
+abbrev pub halfIsEnough : List ℕ → Half
+halfIsEnough [] = record { index = wordMax; free = true }
+halfIsEnough (a ∷ acks) = record { index = kth-largest (length (a ∷ acks) / 2) (a ∷ acks); free = false }
+
+-- And for the vote: Won if yes reaches n/2, else Pending if yes plus missing reaches it, else Lost.
+abbrev pub halfWins : List Vote → VoteResult
+halfWins votes =
+    pickResult (leb (length votes / 2) (count isYes votes)) result.Won
+    (pickResult (leb (length votes / 2) (count isYes votes + count isMissing votes)) result.Pending result.Lost)
+
+-- None of them keeps the promise.
+pub record WrongEnginesQuorum : Type 0 where
+  -- One thing alone is wrong with them: by the right rule each is the promise.
+  pub index-by-the-rule : (v : Voters) (peers : List Peer) → committedIndex v peers ≡ indexBy halfIndex v peers
+  pub joint-index-by-the-rule : (c : JointConfig) (peers : List Peer) → jointIndex c peers ≡ jointIndexBy halfIndex c peers
+  pub result-by-the-rule : (v : Voters) (peers : List Peer) → voteResult v peers ≡ resultBy resultOf v peers
+  pub joint-result-by-the-rule : (c : JointConfig) (peers : List Peer) → jointVerdict c peers ≡ jointResultBy resultOf c peers
+  -- Three voters, all at 5.
+  pub answers-zero : ¬ ((v : Voters) (peers : List Peer) → committedIndex v peers ≡ indexBy answersZero v peers)
+  pub answers-zero-joint : ¬ ((c : JointConfig) (peers : List Peer) → jointIndex c peers ≡ jointIndexBy answersZero c peers)
+  -- Three voters, all yes.
+  pub stays-pending : ¬ ((v : Voters) (peers : List Peer) → voteResult v peers ≡ resultBy staysPending v peers)
+  pub stays-pending-joint : ¬ ((c : JointConfig) (peers : List Peer) → jointVerdict c peers ≡ jointResultBy staysPending c peers)
+  -- Four voters at 9, 7, 3, 3.
+  pub half-is-enough : ¬ ((v : Voters) (peers : List Peer) → committedIndex v peers ≡ indexBy halfIsEnough v peers)
+  pub half-is-enough-joint : ¬ ((c : JointConfig) (peers : List Peer) → jointIndex c peers ≡ jointIndexBy halfIsEnough c peers)
+  -- Four voters, two yes, two no.
+  pub half-wins : ¬ ((v : Voters) (peers : List Peer) → voteResult v peers ≡ resultBy halfWins v peers)
+  pub half-wins-joint : ¬ ((c : JointConfig) (peers : List Peer) → jointVerdict c peers ≡ jointResultBy halfWins c peers)
