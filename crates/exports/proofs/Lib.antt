@@ -2,5 +2,6 @@ pub mod Lengths
 pub mod ReadBack
 pub mod Results
 pub mod Parts
-pub mod Laying
+pub mod RowWords
 pub mod Standing
+pub mod Asked

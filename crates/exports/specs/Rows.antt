@@ -1,15 +1,14 @@
 -- Voters and peer rows as words. A reader must know: the words of a slice of voters are their ids, and four words of a slice of rows are a row.
 -- Nothing is judged here: too many or repeated ids (12) are refused by each question of crate quorum, by the set and the rows that the words say.
-use Prim.Native.Nat.{ℕ, _≤_}
+use Prim.Native.Nat.{ℕ}
 use mathlib.Core.Path.{_≡_}
 use mathlib.Core.Bool.{cond}
-use mathlib.Core.List.{List, [], _∷_}
-use lib.ListN.{length}
+use mathlib.Core.List.{List, [], _∷_, map}
 use lib.Dec.{eqb}
 use Rattle.units.specs.Units.{indexOf}
 use Rattle.units.specs.declared.Check.{Check}
 use Rattle.units.specs.declared.Check.the-variants as checks
-use Rattle.quorum.specs.Limits.{rowLimit}
+use Rattle.quorum.specs.Rows.{idOf, rowOf, valueFor}
 use Rattle.quorum.specs.Voters.{setOf}
 use Rattle.quorum.specs.declared.joint.JointConfig.{JointConfig}
 use Rattle.quorum.specs.declared.rows.Ack.{Ack}
@@ -17,8 +16,7 @@ use Rattle.quorum.specs.declared.rows.Ack.the-variants as ack
 use Rattle.quorum.specs.declared.rows.Vote.{Vote}
 use Rattle.quorum.specs.declared.rows.Vote.the-variants as vote
 use Rattle.quorum.specs.declared.rows.Peer.{Peer}
-use Rattle.peer_tables.specs.Table.{rowsIn}
-use Rattle.peer_tables.specs.declared.Table.{Table}
+use Rattle.quorum.specs.declared.rows.Question.{Question}
 
 -- Words of a row.
 abbrev pub rowLength : ℕ
@@ -45,6 +43,13 @@ peersFrom (id ∷ known ∷ []) = []
 peersFrom (id ∷ known ∷ index ∷ []) = []
 peersFrom (id ∷ known ∷ index ∷ said ∷ words) = peerFrom id known index said ∷ peersFrom words
 
+-- The ids of the rows, and what a question reads of the row of an id.
+abbrev pub rowIds : List ℕ → List ℕ
+rowIds words = map idOf (peersFrom words)
+
+abbrev pub readOf : Question → List ℕ → ℕ → ℕ
+readOf q words id = valueFor q (rowOf (peersFrom words) id)
+
 -- The two halves that two slices of ids say.
 abbrev pub configFrom : List ℕ → List ℕ → JointConfig
 configFrom incoming outgoing = record { incoming = setOf incoming; outgoing = setOf outgoing }
@@ -53,8 +58,3 @@ configFrom incoming outgoing = record { incoming = setOf incoming; outgoing = se
 pub record StandsFor {A : Type 0} (check : A → Check) (meant : A) (handed : A) : Type 0 where
   pub refused-alike : check handed ≡ check meant
   pub else-same : check meant ≡ checks.Fine → handed ≡ meant
-
--- A table of these rows: where they are too many, only their number counts.
-pub record Holds (peers : List Peer) (t : Table) : Type 0 where
-  pub counted : t .count ≡ length peers
-  pub held : t .count ≤ rowLimit → rowsIn t ≡ peers

@@ -1,12 +1,10 @@
 // The leader's commit step over words.
-use crate::rows::config;
-use crate::rows::table;
+use crate::halves::joint_index;
 use crate::words::LOG;
 use crate::words::SINGLE;
 use crate::words::load;
 use crate::words::write_decided;
 use leader::commit_found;
-use peer_tables::joint::committed_index;
 use units::Term;
 use units::refusal::BROKEN_STATE;
 ghost use mathlib.Core.Path.{_≡_};
@@ -34,7 +32,7 @@ pub extern "C" fn leader_maybe_commit(
     if answer.len() < SINGLE {
         return BROKEN_STATE;
     }
-    let found = committed_index(config(incoming, outgoing), table(rows));
+    let found = joint_index(incoming, outgoing, rows);
     let said = commit_found(load(log), settled, pending, Term(term), found);
     write_decided(log, answer, said)
 }

@@ -1,22 +1,22 @@
 // The questions of crate quorum over words. Each tests that the answer has room, reads the sets and the rows, asks, and writes last.
 // The checks of sets and rows are their result alone, and write nothing.
+use crate::halves::joint_index;
+use crate::halves::joint_verdict;
+use crate::halves::majority_index;
+use crate::halves::majority_verdict;
 use crate::rows::config;
-use crate::rows::table;
-use crate::rows::voter_set;
 use crate::words::IDS;
 use crate::words::PAIR;
 use crate::words::SINGLE;
 use crate::words::flag;
 use crate::words::store_pair;
-use peer_tables::joint;
-use peer_tables::majority;
 use quorum::Committed;
 use quorum::Verdict;
 use quorum::VoteResult;
 use quorum::joint::Answer;
 use quorum::joint::Ids;
 use quorum::joint::JointConfig;
-use quorum::majority::Voters;
+use quorum::majority::ids_checked;
 use units::Check;
 use units::refusal::BROKEN_STATE;
 ghost use mathlib.Core.Path.{_≡_};
@@ -122,7 +122,7 @@ pub extern "C" fn majority_committed_index(voters: &[u64], rows: &[u64], answer:
     if answer.len() < PAIR {
         return BROKEN_STATE;
     }
-    let said = majority::committed_index(voter_set(voters), table(rows));
+    let said = majority_index(voters, rows);
     write_committed(answer, said)
 }
 
@@ -134,7 +134,7 @@ pub extern "C" fn majority_vote_result(voters: &[u64], rows: &[u64], answer: &mu
     if answer.len() < SINGLE {
         return BROKEN_STATE;
     }
-    let said = majority::vote_result(voter_set(voters), table(rows));
+    let said = majority_verdict(voters, rows);
     write_verdict(answer, said)
 }
 
@@ -151,7 +151,7 @@ pub extern "C" fn joint_committed_index(
     if answer.len() < PAIR {
         return BROKEN_STATE;
     }
-    let said = joint::committed_index(config(incoming, outgoing), table(rows));
+    let said = joint_index(incoming, outgoing, rows);
     write_committed(answer, said)
 }
 
@@ -168,7 +168,7 @@ pub extern "C" fn joint_vote_result(
     if answer.len() < SINGLE {
         return BROKEN_STATE;
     }
-    let said = joint::vote_result(config(incoming, outgoing), table(rows));
+    let said = joint_verdict(incoming, outgoing, rows);
     write_verdict(answer, said)
 }
 
@@ -230,7 +230,7 @@ pub extern "C" fn joint_clear(incoming: &[u64], outgoing: &[u64], answer: &mut [
 pub extern "C" fn voters_checked(voters: &[u64]) -> u64
     ensures { λ r. ⌜ r ≡ votersRefusal (now (voters .entry)) ⌝ }
 {
-    voter_set(voters).checked().refusal()
+    ids_checked(voters).refusal()
 }
 
 // 12 of either half.
@@ -241,15 +241,10 @@ pub extern "C" fn joint_checked(incoming: &[u64], outgoing: &[u64]) -> u64
     config(incoming, outgoing).checked().refusal()
 }
 
-// 12 where the rows are too many, or an id stands twice: what a question refuses that asks nobody.
+// 12 where the rows are too many, or an id stands twice.
 #[no_mangle]
 pub extern "C" fn rows_checked(rows: &[u64]) -> u64
     ensures { λ r. ⌜ r ≡ rowsRefusal (now (rows .entry)) ⌝ }
 {
-    let nobody = JointConfig::new(Voters::empty());
-    let said = joint::committed_index(nobody, table(rows));
-    match said {
-        Committed::At(_, _) => 0,
-        Committed::Refused(number) => number,
-    }
+    crate::halves::rows_checked(rows).refusal()
 }

@@ -1,23 +1,20 @@
 // Voters and peer rows, read from words. What is wrong with them (12) is left to the questions, which look for it in any case.
-use peer_tables::Table;
 use quorum::joint::JointConfig;
 use quorum::majority::Voters;
 use quorum::rows::Ack;
 use quorum::rows::Peer;
-use quorum::rows::Rows;
 use quorum::rows::Vote;
-use units::Check;
 use units::Index;
 ghost use mathlib.Core.Path.{_≡_};
 ghost use mathlib.Core.List.{_∷_};
-ghost use Prim.Native.Nat.{_+_, _≤_, min};
+ghost use Prim.Native.Nat.{_+_, _≤_};
 ghost use lib.ListN.{length, drop};
 ghost use Rattle.quorum.specs.Voters.{votersCheck, setOf};
 ghost use Rattle.quorum.specs.Joint.{configCheck};
-ghost use Rattle.exports.specs.Rows.{rowLength, ackFrom, voteFrom, peersFrom, configFrom, StandsFor, Holds};
+ghost use Rattle.exports.specs.Rows.{rowLength, ackFrom, voteFrom, peersFrom, configFrom, StandsFor};
 
 // Words of a peer row: id, 0 if its acknowledgement is missing, the acknowledged index, its vote.
-const ROW: usize = 4;
+pub const ROW: usize = 4;
 
 fn ack(known: u64, index: u64) -> Ack
     ensures { λ r. ⌜ r ≡ ackFrom known index ⌝ }
@@ -41,7 +38,7 @@ fn vote(said: u64) -> Vote
 }
 
 // The row whose words begin at `at`: it and those behind it are the rows from there on.
-fn row(words: &[u64], at: usize) -> Peer
+pub fn row(words: &[u64], at: usize) -> Peer
     requires { ⌜ at + rowLength ≤ length (now words) ⌝ }
     ensures { λ r. ⌜ peersFrom (drop at (now (words .entry))) ≡ r ∷ peersFrom (drop (at + rowLength) (now (words .entry))) ⌝ }
 {
@@ -52,41 +49,11 @@ fn row(words: &[u64], at: usize) -> Peer
     }
 }
 
-fn smaller(a: usize, b: usize) -> usize
-    ensures { λ r. ⌜ r ≡ min a b ⌝ }
-{
-    if a < b { a } else { b }
-}
-
-// The rows that the words say. What is beyond the limit is counted and not read.
-pub fn table(words: &[u64]) -> Table
-    ensures { λ r. ⌜ Holds (peersFrom (now (words .entry))) r ⌝ }
-{
-    let count = words.len() / ROW;
-    let end = smaller(count, Rows::LIMIT);
-    let none = Table::empty();
-    let mut peers = none.peers;
-    let mut i = 0;
-    while i < end {
-        peers[i] = row(words, i * ROW);
-        i += 1;
-    }
-    Table { peers, count }
-}
-
-// The set that the constructor makes of these ids. Where it makes none, a set over the limit stands for it: every question refuses that by the constructor's number, and after what it refuses before.
+// The set of these ids, broken or not.
 pub fn voter_set(ids: &[u64]) -> Voters
     ensures { λ r. ⌜ StandsFor votersCheck (setOf (now (ids .entry))) r ⌝ }
 {
-    let made = Voters::new(ids);
-    let check = made.check;
-    let Check::Fine = check else {
-        return Voters {
-            ids: [0; Voters::LIMIT],
-            count: Voters::LIMIT + 1,
-        };
-    };
-    made.set
+    Voters::holding(ids)
 }
 
 // Both halves.

@@ -10,11 +10,16 @@ use Rattle.units.specs.Refusals.{refusalOf, bothChecks}
 use Rattle.units.specs.declared.Index.{Index}
 use Rattle.units.specs.declared.Term.{Term}
 use Rattle.units.specs.declared.Check.{Check}
-use Rattle.quorum.specs.Voters.{noVoters, made as madeSet, votersCheck}
+use Rattle.quorum.specs.Voters.{noVoters, made as madeSet, setOf, votersCheck}
+use Rattle.rules.specs.Majority.{falling}
+use Rattle.quorum.specs.Votes.{jointResult}
+use Rattle.quorum.specs.Half.{halfIndex, joined, numbersResult}
 use Rattle.quorum.specs.Majority.{committedIndex, voteResult, plainIndex, plainResult}
 use Rattle.quorum.specs.Joint.{oneSet, configCheck, singleton, containsOf, idsAnswer, jointIndex, jointVerdict, plainJointIndex, plainJointVerdict}
 use Rattle.quorum.specs.Rows.{gathered, plainCheck, valueFor, ackNumber, voteNumber}
 use Rattle.quorum.specs.declared.Committed.{Committed}
+use Rattle.quorum.specs.declared.VoteResult.{VoteResult}
+use Rattle.quorum.specs.declared.half.Half.{Half}
 use Rattle.quorum.specs.declared.majority.Voters.{Voters}
 use Rattle.quorum.specs.declared.joint.JointConfig.{JointConfig}
 use Rattle.quorum.specs.declared.rows.Ack.{Ack}
@@ -102,6 +107,12 @@ voters-empty = one-answer
 pub voters-new : (ids : List ℕ) → OneAnswer (_≡ madeSet ids)
 voters-new ids = one-answer
 
+pub voters-holding : (ids : List ℕ) → OneAnswer (_≡ setOf ids)
+voters-holding ids = one-answer
+
+pub ids-checked : (ids : List ℕ) → OneAnswer (_≡ votersCheck (setOf ids))
+ids-checked ids = one-answer
+
 pub voters-checked : (self : Voters) → OneAnswer (_≡ votersCheck self)
 voters-checked self = one-answer
 
@@ -148,6 +159,20 @@ joint-committed-index-of config rows = one-answer
 
 pub joint-vote-result-of : (config : JointConfig) (rows : Rows) → OneAnswer (_≡ plainJointVerdict config rows)
 joint-vote-result-of config rows = one-answer
+
+-- ---- quorum: one half, by what its voters said
+
+pub half-index-of : (acks : List ℕ) → OneOutcome (λ r acks′. (r ≡ halfIndex acks) × (acks′ ≡ falling acks))
+half-index-of acks = one-outcome (λ r. falling acks)
+
+pub half-result-of : (votes : List ℕ) → OneAnswer (_≡ numbersResult votes)
+half-result-of votes = one-answer
+
+pub half-joined : (incoming outgoing : Half) → OneAnswer (_≡ joined incoming outgoing)
+half-joined incoming outgoing = one-answer
+
+pub half-joint-result : (incoming outgoing : VoteResult) → OneAnswer (_≡ jointResult incoming outgoing)
+half-joint-result incoming outgoing = one-answer
 
 -- ---- quorum: peer rows
 

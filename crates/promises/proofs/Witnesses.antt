@@ -17,7 +17,6 @@ use Rattle.rules.specs.Majority.{MajorityReached, Commits, insert, falling, kth
 use Rattle.rules.proofs.Count.{count-reordered}
 use Rattle.rules.proofs.Majority.{committed-commits}
 use Rattle.quorum.specs.Ids.{position, has, distinct}
-use Rattle.quorum.specs.Rows.{nobody}
 use Rattle.quorum.specs.Voters.{votersCheck, setOf, noVoters}
 use Rattle.quorum.specs.Half.{halfIndex}
 use Rattle.quorum.specs.Votes.{Ends, free, yea, none as no-votes, Sure, Hopeless}
@@ -69,12 +68,11 @@ use Rattle.log_laws.specs.Frame.{Elsewhere}
 use Rattle.log_laws.proofs.Nonzero.{set-nonzero}
 use Rattle.log_laws.proofs.Looking.{find-conflict-view}
 use Rattle.log_laws.proofs.Slicing.{slice-gives}
-use Rattle.peer_tables.specs.Table.{noRows, oneMore}
 use Rattle.leader.specs.Leader.{leaderCommit}
 use Rattle.leader.specs.Rule.{MayCommit}
 use Rattle.leader.proofs.Backed.{commits-by-the-rule}
 use Rattle.exports.specs.Words.{leaves}
-use Rattle.exports.specs.Rows.{StandsFor, Holds as TableHolds}
+use Rattle.exports.specs.Rows.{StandsFor}
 use Rattle.exports.specs.Reads.{Holds as StoreHolds, Sound as SoundBounds}
 use Rattle.exports.specs.LogCalls.{newLeaves}
 use Rattle.exports.proofs.Results.{Tells, log-new-tells}
@@ -464,13 +462,6 @@ stands-for = record { refused-alike = refl; else-same = λ fine. cc }
 pub not-stands-for : StandsFor votersCheck (setOf (1 ∷ [])) (setOf (2 ∷ [])) → ⊥
 unfolding quorums
 not-stands-for s = let z : _≡_ {A = ℕ} 2 1 = ap (λ (v : Voters). getD (v .ids) 0 0) (s .else-same refl) in omega arith
-
--- A table with one row, nobody's, holds that row, and not none.
-pub table-holds : TableHolds (nobody ∷ []) (oneMore noRows nobody)
-table-holds = record { counted = refl; held = λ few. refl }
-
-pub table-holds-not : TableHolds [] (oneMore noRows nobody) → ⊥
-table-holds-not h = let z : _≡_ {A = ℕ} 1 0 = h .counted in omega arith
 
 -- A's pending store begins at 4 and has records 4 and 5; it does not have 3.
 pub store-holds : StoreHolds pendingA 4 4 6

@@ -17,12 +17,13 @@ use Rattle.quorum.specs.declared.Committed.{Committed}
 use Rattle.quorum.specs.declared.Committed.the-variants as index
 use Rattle.quorum.specs.declared.Verdict.{Verdict}
 use Rattle.quorum.specs.declared.Verdict.the-variants as verdict
-use Rattle.quorum.specs.declared.VoteResult.the-variants as result
 use Rattle.quorum.specs.declared.joint.Answer.{Answer}
 use Rattle.quorum.specs.declared.joint.Answer.the-variants as answer
 use Rattle.quorum.specs.declared.rows.Ack.{Ack}
 use Rattle.quorum.specs.declared.rows.Ack.the-variants as ack
 use Rattle.quorum.specs.declared.rows.Vote.the-variants.{Yes, No}
+use Rattle.exports.specs.Words.{flagWord}
+use Rattle.exports.specs.QuorumCalls.{resultWord}
 use Rattle.promises.specs.Cases.{votersFrom, acking, voting}
 use Rattle.promises.specs.WrongQuorum.{WrongQuorum, WrongEnginesQuorum}
 use Rattle.promises.proofs.Apart.{apart}
@@ -33,9 +34,7 @@ indexIn (index.At i free) = i .0
 indexIn (index.Refused n) = wordMax + n
 
 abbrev resultIn : Verdict → ℕ
-resultIn (verdict.Stands result.Pending) = 0
-resultIn (verdict.Stands result.Lost) = 1
-resultIn (verdict.Stands result.Won) = 2
+resultIn (verdict.Stands said) = resultWord said
 resultIn (verdict.Refused n) = 3 + n
 
 abbrev saidIn : Answer → ℕ
@@ -64,6 +63,10 @@ wrong-quorum = record {
   voters-empty-words = apart (λ v. getD (v .ids) 0 0) refl;
   voters-new-first-seven = apart (λ m. refusalOf (m .check)) refl;
   voters-new-dropped = apart (λ m. refusalOf (m .check)) refl;
+  voters-holding-dropped = apart (λ v. v .count) refl;
+  voters-holding-stops = apart (λ v. v .count) refl;
+  ids-checked-eight = apart refusalOf refl;
+  ids-checked-seven = apart refusalOf refl;
   voters-checked-repeated = apart refusalOf refl;
   voters-checked-seven = apart refusalOf refl;
   majority-committed-index-zero = apart indexIn refl;
@@ -104,6 +107,14 @@ wrong-quorum = record {
   rows-ack-number-lost = apart (λ n. n) refl;
   rows-vote-number-missing = apart (λ n. n) refl;
   rows-vote-number-changed = apart (λ n. n) refl;
+  half-index-of-zero = apart (λ h. h .index) refl;
+  half-index-of-unsorted = apart (λ words. getD words 0 0) refl;
+  half-result-of-half = apart resultWord refl;
+  half-result-of-missing = apart resultWord refl;
+  half-joined-larger = apart (λ h. h .index) refl;
+  half-joined-free = apart (λ h. flagWord (h .free)) refl;
+  half-joint-result-one = apart resultWord refl;
+  half-joint-result-waits = apart resultWord refl;
   table-empty-counts = apart (λ t. t .count) refl;
   table-empty-zeros = apart (λ t. ackIn (getD (t .peers) 0 nobody .ack)) refl;
   table-with-not-counted = apart (λ t. t .count) refl;

@@ -11,12 +11,12 @@ use Rattle.units.specs.Units.{wordMax, indexLimit, indexOf, termOf}
 use Rattle.units.specs.Refusals.{brokenState, noRoom, brokenSet, refusalOf, bothChecks}
 use Rattle.units.specs.declared.Check.the-variants as check
 use Rattle.rules.specs.Count.{count}
-use Rattle.rules.specs.Majority.{kth-largest}
+use Rattle.rules.specs.Majority.{kth-largest, falling}
 use Rattle.quorum.specs.Limits.{voterLimit, rowLimit}
 use Rattle.quorum.specs.Rows.{nobody, ackNumber, voteNumber, rowsCheck, valueFor, gathered, plainCheck}
 use Rattle.quorum.specs.Voters.{votersCheck, setOf, noVoters, made}
 use Rattle.quorum.specs.Votes.{pickResult, isYes, isMissing, resultOf, jointResult}
-use Rattle.quorum.specs.Half.{halfIndex, joined}
+use Rattle.quorum.specs.Half.{halfIndex, joined, numbersResult}
 use Rattle.quorum.specs.Majority.{indexUnless, resultUnless, acksOf, votesOf, committedIndex, voteResult, plainIndex, plainResult}
 use Rattle.quorum.specs.Joint.{oneSet, configCheck, jointIndex, jointVerdict, plainJointIndex, plainJointVerdict, singleton, containsOf, listed, idsAnswer}
 use Rattle.quorum.specs.declared.Committed.{Committed}
@@ -113,6 +113,14 @@ pub record WrongQuorum : Type 0 where
   pub voters-new-first-seven : made (idsFrom 1 (suc voterLimit)) ≢ fineSet (votersFrom 1 voterLimit)
   -- 1, 2, 1: the repeated id dropped, with no 12.
   pub voters-new-dropped : made (1 ∷ 2 ∷ 1 ∷ []) ≢ fineSet (votersFrom 1 2)
+  -- 1, 2, 1 as they are: the repeated id dropped.
+  pub voters-holding-dropped : setOf (1 ∷ 2 ∷ 1 ∷ []) ≢ votersFrom 1 2
+  -- Eight ids as they are: the first seven, as if there were no more.
+  pub voters-holding-stops : setOf (idsFrom 1 (suc voterLimit)) ≢ votersFrom 1 voterLimit
+  -- Eight ids: fine.
+  pub ids-checked-eight : votersCheck (setOf (idsFrom 1 (suc voterLimit))) ≢ check.Fine
+  -- Seven ids: 12, one too early.
+  pub ids-checked-seven : votersCheck (setOf (idsFrom 1 voterLimit)) ≢ check.Refused brokenSet
   -- 1, 2, 1: fine, as if only neighbours were compared.
   pub voters-checked-repeated : votersCheck (setOf (1 ∷ 2 ∷ 1 ∷ [])) ≢ check.Fine
   -- Seven voters: 12, one too early.
@@ -171,6 +179,23 @@ pub record WrongQuorum : Type 0 where
   pub joint-committed-index-of-empty : plainJointIndex (oneSet (votersFrom 1 3)) (ackRows (5 ∷ 4 ∷ 3 ∷ [])) ≢ upTo 0
   pub joint-vote-result-of-one-half : plainJointVerdict threeAndTwo (voteRows (vote.Yes ∷ vote.Yes ∷ vote.Yes ∷ vote.Yes ∷ [])) ≢ verdict.Stands result.Won
   pub joint-vote-result-of-waits : plainJointVerdict threeAndTwo (voteRows (vote.Yes ∷ vote.Missing ∷ vote.Missing ∷ vote.No ∷ vote.No ∷ [])) ≢ verdict.Stands result.Pending
+  -- ---- quorum: one half, by what its voters said
+  -- 5, 5, 5: 0. It is 5.
+  pub half-index-of-zero : halfIndex (5 ∷ 5 ∷ 5 ∷ []) ≢ record { index = 0; free = false }
+  -- 3, 9, 7: the words left as they were. They are sorted in place.
+  pub half-index-of-unsorted : falling (3 ∷ 9 ∷ 7 ∷ []) ≢ 3 ∷ 9 ∷ 7 ∷ []
+  -- Two yes, two no: Won, with half of the votes.
+  pub half-result-of-half : numbersResult (1 ∷ 1 ∷ 2 ∷ 2 ∷ []) ≢ result.Won
+  -- One yes, two missing: Lost, where a missing vote is a no.
+  pub half-result-of-missing : numbersResult (1 ∷ 0 ∷ 0 ∷ []) ≢ result.Lost
+  -- 4 and 3: the larger.
+  pub half-joined-larger : joined (record { index = 4; free = false }) (record { index = 3; free = false }) ≢ record { index = 4; free = false }
+  -- A half without voters, and 3: nobody had a say.
+  pub half-joined-free : joined (record { index = wordMax; free = true }) (record { index = 3; free = false }) ≢ record { index = 3; free = true }
+  -- Won and pending: Won.
+  pub half-joint-result-one : jointResult result.Won result.Pending ≢ result.Won
+  -- Pending and lost: Pending. It is Lost.
+  pub half-joint-result-waits : jointResult result.Pending result.Lost ≢ result.Pending
   -- ---- quorum: peer rows
   -- One row at 5, asked for the index: the votes gathered.
   pub rows-gather-column : gathered question.Index (acking (5 ∷ [])) ≢ gathered question.Vote (acking (5 ∷ []))

@@ -15,13 +15,14 @@ use Rattle.units.specs.Refusals.{bothChecks, refusalOf}
 use Rattle.quorum.specs.Limits.{voterLimit, rowLimit}
 use Rattle.quorum.specs.Ids.{distinct, fineIf}
 use Rattle.quorum.specs.Rows.{idsOf, plainCheck}
-use Rattle.quorum.specs.Voters.{votersOf, votersCheck}
+use Rattle.quorum.specs.Voters.{votersOf, votersCheck, setOf}
 use Rattle.quorum.specs.Joint.{configCheck}
 use Rattle.quorum.specs.declared.majority.Voters.{Voters}
 use Rattle.quorum.specs.declared.rows.Rows.{Rows}
 use Rattle.quorum.specs.declared.joint.JointConfig.{JointConfig}
 use Rattle.quorum.proofs.Sizes.{row-ids-length, row-values-length}
 use Rattle.quorum.proofs.rows.Rows as Ro
+use Rattle.quorum.proofs.Padded.{take-padded}
 
 pub fine-true : (b : Bool) → fineIf b ≡ check.Fine → b ≡ true
 fine-true true e = refl
@@ -55,6 +56,14 @@ module _ (k : Check) (r : Rows) {vs : List Val} (good : Is Ro.the-row r vs) (fin
 
   pub values-held : r .count ≤ length (r .values)
   values-held = omega (arith, rows-within r (second-fine k (plainCheck r) fine), row-values-length r good)
+
+-- A set of ids is checked as the ids are.
+pub set-check : (ids : List ℕ) → votersCheck (setOf ids) ≡ fineIf (leb (length ids) voterLimit && distinct ids)
+set-check ids = at (leb (length ids) voterLimit) refl
+  where
+    at : (few : Bool) → leb (length ids) voterLimit ≡ few → votersCheck (setOf ids) ≡ fineIf (leb (length ids) voterLimit && distinct ids)
+    at true e = rw (take-padded voterLimit ids (leb-true _ _ e))
+    at false e = rw e
 
 -- of both halves
 pub incoming-within : (c : JointConfig) → configCheck c ≡ check.Fine → c .incoming .count ≤ voterLimit

@@ -4,7 +4,7 @@ use mathlib.Core.Path.{_≡_, refl, sym, ap, _∙_}
 use mathlib.Core.Bool.{_&&_}
 use mathlib.Core.List.{List, map, map-map}
 use mathlib.Core.Logic.{⊎-elim}
-use lib.ListN.{length, take, getD, length-map, List·getD-map}
+use lib.ListN.{length, getD, length-map, List·getD-map}
 use lib.Dec.{leb, eqb}
 use borrow.Author.Tests.{lt-leb}
 use Rattle.units.specs.Refusals.{bothChecks, brokenSet}
@@ -12,7 +12,7 @@ use Rattle.units.specs.declared.Check.{Check}
 use Rattle.units.specs.declared.Check.the-variants as check
 use Rattle.rules.proofs.Count.{le-or-gt, count-map, count-same}
 use Rattle.quorum.specs.Limits.{rowLimit}
-use Rattle.quorum.specs.Ids.{position, distinct, fineIf, padded}
+use Rattle.quorum.specs.Ids.{position, distinct, fineIf}
 use Rattle.quorum.specs.Rows.{nobody, idOf, rowOf, voteNumber, rowsCheck, valueFor, gathered, idsOf, valuesOf, plainCheck}
 use Rattle.quorum.specs.Voters.{votersOf, votersCheck}
 use Rattle.quorum.specs.Votes.{isYes, isMissing, resultOf, jointResult}
@@ -26,15 +26,16 @@ use Rattle.quorum.specs.declared.rows.Question.{Question}
 use Rattle.quorum.specs.declared.rows.Question.the-variants as question
 use Rattle.quorum.specs.declared.rows.Vote.{Vote}
 use Rattle.quorum.specs.declared.rows.Vote.the-variants as vote
-use Rattle.quorum.proofs.Padded.{take-padded}
+use Rattle.quorum.proofs.Padded.{front-padded}
 
--- The front of a column is the column.
-column : {A : Type 0} (f : A → ℕ) (xs : List A) → length xs ≤ rowLimit → take (length xs) (padded rowLimit (map f xs)) ≡ map f xs
-column f xs h = ap (λ (n : ℕ). take n (padded rowLimit (map f xs))) (sym (length-map xs f)) ∙ take-padded rowLimit (map f xs) (rw length-map h)
+-- A voter without a row is missing, whatever the question.
+pub nothing-read : (q : Question) → valueFor q nobody ≡ 0
+nothing-read question.Index = refl
+nothing-read question.Vote = refl
 
 module _ (q : Question) (peers : List Peer) where
   few-check : length peers ≤ rowLimit → plainCheck (gathered q peers) ≡ rowsCheck peers
-  few-check h = ap (λ (ids : List ℕ). fineIf (leb (length peers) rowLimit && distinct ids)) (column idOf peers h)
+  few-check h = ap (λ (ids : List ℕ). fineIf (leb (length peers) rowLimit && distinct ids)) (front-padded idOf rowLimit peers h)
 
   many-check : rowLimit < length peers → plainCheck (gathered q peers) ≡ check.Refused brokenSet
   many-check h = rw (lt-leb (length peers) rowLimit h)
@@ -42,19 +43,12 @@ module _ (q : Question) (peers : List Peer) where
   many-rows : rowLimit < length peers → rowsCheck peers ≡ check.Refused brokenSet
   many-rows h = rw (lt-leb (length peers) rowLimit h)
 
-  nothing-read : valueFor q nobody ≡ 0
-  nothing-read = at-nobody q
-    where
-      at-nobody : (k : Question) → valueFor k nobody ≡ 0
-      at-nobody question.Index = refl
-      at-nobody question.Vote = refl
-
   -- a voter's value among the gathered rows is what the question reads of its row
   value-read : (id : ℕ) → length peers ≤ rowLimit → valueIn (idsOf (gathered q peers)) (valuesOf (gathered q peers)) id ≡ valueFor q (rowOf peers id)
   value-read id h =
-      ap (λ (values : List ℕ). getD values (position id (idsOf (gathered q peers))) 0) (column (valueFor q) peers h)
-      ∙ ap (λ (ids : List ℕ). getD (map (valueFor q) peers) (position id ids) 0) (column idOf peers h)
-      ∙ ap (getD (map (valueFor q) peers) (position id (map idOf peers))) (sym nothing-read)
+      ap (λ (values : List ℕ). getD values (position id (idsOf (gathered q peers))) 0) (front-padded (valueFor q) rowLimit peers h)
+      ∙ ap (λ (ids : List ℕ). getD (map (valueFor q) peers) (position id ids) 0) (front-padded idOf rowLimit peers h)
+      ∙ ap (getD (map (valueFor q) peers) (position id (map idOf peers))) (sym (nothing-read q))
       ∙ List·getD-map (valueFor q) peers (position id (map idOf peers)) nobody
 
   values-read : (v : Voters) → length peers ≤ rowLimit → plainValues (gathered q peers) v ≡ map (λ id. valueFor q (rowOf peers id)) (votersOf v)
@@ -83,7 +77,7 @@ unsaid vote.Missing = refl
 unsaid vote.Yes = refl
 unsaid vote.No = refl
 
-numbers-votes : (votes : List Vote) → numbersResult (map voteNumber votes) ≡ resultOf votes
+pub numbers-votes : (votes : List Vote) → numbersResult (map voteNumber votes) ≡ resultOf votes
 numbers-votes votes =
     rw (length-map votes voteNumber, count-map (eqb 1) voteNumber votes ∙ count-same _ isYes said votes, count-map (eqb 0) voteNumber votes ∙ count-same _ isMissing unsaid votes)
 

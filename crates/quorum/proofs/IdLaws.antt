@@ -1,11 +1,12 @@
 -- Laws of positions and of distinct ids.
 use Prim.Native.Nat.{ℕ, suc, _≤_, _<_}
-use mathlib.Core.Path.{_≡_}
-use mathlib.Core.Bool.{false}
+use mathlib.Core.Path.{_≡_, refl, sym, _∙_}
+use mathlib.Core.Bool.{Bool, true, false}
 use mathlib.Core.List.{List, _∷_}
+use native.Mathlib.Omega.{arith}
 use lib.ListN.{length}
 use lib.Dec.{ltb}
-use borrow.Author.Tests.{eq-eqb, ne-eqb, lt-ltb, le-ltb}
+use borrow.Author.Tests.{eq-eqb, ne-eqb, lt-ltb, le-ltb, ltb-true, ltb-false}
 use Rattle.quorum.specs.Ids.{position, has, distinct}
 
 pub position-here : (id x : ℕ) (xs : List ℕ) → x ≡ id → position id (x ∷ xs) ≡ 0
@@ -27,3 +28,16 @@ distinct-once x xs h = rw (le-ltb (position x xs) (length xs) h)
 pub has-at : (id : ℕ) (xs : List ℕ) (at count : ℕ) → at ≡ position id xs → count ≡ length xs → ltb at count ≡ has id xs
 unfolding has
 has-at id xs at count e f = rw (e, f)
+
+-- An id stands in a list that begins with it; past another it stands where it stands in the rest.
+pub has-here : (id x : ℕ) (xs : List ℕ) → x ≡ id → has id (x ∷ xs) ≡ true
+unfolding has
+has-here id x xs e = lt-ltb (position id (x ∷ xs)) (length (x ∷ xs)) (omega (arith, position-here id x xs e))
+
+pub has-next : (id x : ℕ) (xs : List ℕ) → (x ≡ id → ⊥) → has id (x ∷ xs) ≡ has id xs
+unfolding has
+has-next id x xs e = at (ltb (position id xs) (length xs)) refl
+  where
+    at : (b : Bool) → ltb (position id xs) (length xs) ≡ b → ltb (position id (x ∷ xs)) (length (x ∷ xs)) ≡ ltb (position id xs) (length xs)
+    at true h = lt-ltb (position id (x ∷ xs)) (length (x ∷ xs)) (omega (arith, position-next id x xs e, ltb-true (position id xs) (length xs) h)) ∙ sym h
+    at false h = le-ltb (position id (x ∷ xs)) (length (x ∷ xs)) (omega (arith, position-next id x xs e, ltb-false (position id xs) (length xs) h)) ∙ sym h

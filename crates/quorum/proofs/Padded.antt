@@ -34,6 +34,10 @@ module _ (n : ℕ) (xs : List ℕ) (fits : length xs ≤ n) where
   drop-padded : drop (length xs) (padded n xs) ≡ zeros (n - length xs)
   drop-padded = rw padded-fits (drop-append-seam xs (zeros (n - length xs)))
 
+-- What f says of a list lies at the front.
+pub front-padded : {A : Type 0} (f : A → ℕ) (n : ℕ) (xs : List A) → length xs ≤ n → take (length xs) (padded n (map f xs)) ≡ map f xs
+front-padded f n xs h = ap (λ (k : ℕ). take k (padded n (map f xs))) (sym (length-map xs f)) ∙ take-padded n (map f xs) (rw length-map h)
+
 -- Another list of the same length in its place.
 pub replace-padded : (n : ℕ) (xs ys : List ℕ) → length xs ≤ n → length ys ≡ length xs → ys ++ drop (length xs) (padded n xs) ≡ padded n ys
 replace-padded n xs ys fits e = rw (drop-padded n xs fits) (ap (λ (k : ℕ). ys ++ zeros (n - k)) (sym e) ∙ sym (padded-fits n ys (omega arith)))
@@ -49,6 +53,13 @@ paste-padded n xs ys h =
 
 pub paste-zeros : (n : ℕ) (ys : List ℕ) → length ys ≤ n → paste (replicate n 0) 0 ys (length ys) ≡ padded n ys
 paste-zeros n ys h = ap (λ (l : List ℕ). paste l 0 ys (length ys)) (padded-none n) ∙ paste-padded n [] ys (omega arith)
+
+-- What an array has no room for does not count.
+pub padded-cut : (n : ℕ) (xs : List ℕ) → n ≤ length xs → padded n (take n xs) ≡ padded n xs
+padded-cut n xs h =
+    let cut : length (take n xs) ≡ n = length-take-le n xs h in
+    let rest : n - length (take n xs) ≡ n - length xs = omega arith in
+    rw (take-all n (take n xs) (omega arith), rest)
 
 -- A word that is stored there.
 pub set-padded : (n : ℕ) (xs : List ℕ) (x : ℕ) → length xs < n → set (padded n xs) (length xs) x ≡ padded n (xs ++ (x ∷ []))

@@ -1,8 +1,9 @@
 // Majority and joint quorums (quorum.rs of the crate): how far a set of voters has acknowledged, and how its vote stands.
 // Ported from raft 0.7.0, Copyright 2020 TiKV Project Authors, Apache-2.0 (see NOTICE).
-mod half;
+pub mod half;
 mod ids;
 pub mod joint;
+mod lookup;
 pub mod majority;
 pub mod rows;
 mod sort;

@@ -9,7 +9,7 @@ use units::Check;
 use units::Index;
 use units::refusal::BROKEN_SET;
 ghost use mathlib.Core.Path.{_≡_};
-ghost use Rattle.quorum.specs.Voters.{votersCheck, noVoters, made};
+ghost use Rattle.quorum.specs.Voters.{votersCheck, setOf, noVoters, made};
 ghost use Rattle.quorum.specs.Majority.{committedIndex, voteResult, plainIndex, plainResult};
 
 // The voters: the first `count` ids, each once.
@@ -41,29 +41,31 @@ impl Voters {
     pub fn new(ids: &[u64]) -> Made
         ensures { λ r. ⌜ r ≡ made (now (ids .entry)) ⌝ }
     {
-        if Voters::LIMIT < ids.len() {
-            return Made {
-                check: Check::Refused(BROKEN_SET),
-                set: Voters::empty(),
-            };
-        }
-        let check = crate::ids::checked(ids, ids.len());
+        let check = ids_checked(ids);
         let Check::Fine = check else {
             return Made {
                 check,
                 set: Voters::empty(),
             };
         };
-        let mut copy = [0u64; Voters::LIMIT];
-        crate::ids::copy_at(&mut copy, 0, ids);
-        let set = Voters {
-            ids: copy,
-            count: ids.len(),
-        };
         Made {
             check: Check::Fine,
-            set,
+            set: Voters::holding(ids),
         }
+    }
+
+    // The set of these ids as they are, also where it is broken: what is over the limit is counted and not kept.
+    pub fn holding(ids: &[u64]) -> Self
+        ensures { λ r. ⌜ r ≡ setOf (now (ids .entry)) ⌝ }
+    {
+        let count = ids.len();
+        let mut copy = [0u64; Voters::LIMIT];
+        if Voters::LIMIT < count {
+            crate::ids::copy_at(&mut copy, 0, &ids[..Voters::LIMIT]);
+            return Self { ids: copy, count };
+        }
+        crate::ids::copy_at(&mut copy, 0, ids);
+        Self { ids: copy, count }
     }
 
     // 12 where the count is over the limit, or an id stands twice.
@@ -73,6 +75,16 @@ impl Voters {
         let ids = self.ids;
         crate::ids::checked(&ids, self.count)
     }
+}
+
+// 12 of the set of these ids.
+pub fn ids_checked(ids: &[u64]) -> Check
+    ensures { λ r. ⌜ r ≡ votersCheck (setOf (now (ids .entry))) ⌝ }
+{
+    if Voters::LIMIT < ids.len() {
+        return Check::Refused(BROKEN_SET);
+    }
+    crate::ids::checked(ids, ids.len())
 }
 
 // How far a majority has acknowledged, over gathered rows: the core of `committed_index`.
@@ -86,7 +98,7 @@ pub fn committed_index_of(voters: Voters, rows: Rows) -> Committed
     let ids = rows.ids;
     let values = rows.values;
     let count = rows.count;
-    let half = crate::half::committed_index(voters, &ids[..count], &values[..count]);
+    let half = crate::lookup::committed_index(voters, &ids[..count], &values[..count]);
     Committed::At(Index(half.index), half.free)
 }
 
@@ -101,7 +113,7 @@ pub fn vote_result_of(voters: Voters, rows: Rows) -> Verdict
     let ids = rows.ids;
     let values = rows.values;
     let count = rows.count;
-    let result = crate::half::vote_result(voters, &ids[..count], &values[..count]);
+    let result = crate::lookup::vote_result(voters, &ids[..count], &values[..count]);
     Verdict::Stands(result)
 }
 

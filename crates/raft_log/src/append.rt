@@ -7,7 +7,6 @@ use crate::run::check_run;
 use crate::state::larger;
 use crate::state::state_ok;
 use crate::state::term_at;
-use crate::words::run_index;
 use crate::words::same_terms;
 use units::Index;
 use units::refusal::BROKEN_STATE;

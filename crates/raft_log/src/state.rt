@@ -3,7 +3,7 @@ use crate::Log;
 use crate::words::store_term;
 use units::Index;
 ghost use mathlib.Core.Path.{_≡_};
-ghost use Prim.Native.Nat.{_+_, _-_, _≤_, _<_, max};
+ghost use Prim.Native.Nat.{_+_, _-_, _<_, max};
 ghost use lib.Dec.{eqb};
 ghost use Rattle.raft_log.specs.State.{Good, agree, stateOk, termAt, lastOf};
 

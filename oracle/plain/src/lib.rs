@@ -1,5 +1,6 @@
 //! The rules of document 01 (01-scope.md) as a plain program, to be read beside it: each rule has the document's
-//! sentence above it. Where the document leaves a point open, docs/DECISIONS.md decides. Speed is no aim.
+//! sentence above it. Where the document leaves a point open, docs/DECISIONS.md decides: "(open points)" marks a
+//! sentence of that kind. Speed is no aim.
 //!
 //! `log`, `quorum`, `leader` and `inflights` have the calls over Rust's own types; `words` has them once more
 //! over words, as include/deckplover.h declares them, which is what the differential runs call.

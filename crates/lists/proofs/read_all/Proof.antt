@@ -1,7 +1,6 @@
 -- `read_all` ends.
 use borrow.Author.Needs.{needs}
 use mathlib.Core.Path.{_≡_}
-use Prim.Native.Nat.{_-_}
 use lib.ListN.{length}
 use Rattle.lists.proofs.read_all.Statement.{statement}
 use Rattle.lists.proofs.read_all.Tie as tie

@@ -3,7 +3,6 @@ use borrow.Author.Needs.{needs}
 use native.Mathlib.Omega.{arith}
 use Rattle.leader.specs.Leader.{leaderCommit}
 use Rattle.exports.proofs.Lengths.{short, long}
-use Rattle.exports.proofs.Standing.{joint-index-asked}
 use Rattle.exports.proofs.leading.leader_maybe_commit.Statement.{statement}
 use Rattle.exports.proofs.leading.leader_maybe_commit.Tie as tie
 
@@ -13,14 +12,8 @@ returns c = short _ _ _ _ (omega arith)
 returns-2 : tie.Need-returns-2
 returns-2 c = long _ _ _ _ (omega arith) (short _ _ _ _ (omega arith))
 
-config-requires : tie.Need-config-requires
-config-requires c κs = search needs
-
-table-requires : tie.Need-table-requires
-table-requires c κs = search needs
-
-committed-index-requires : tie.Need-committed-index-requires
-committed-index-requires c κs = search needs
+joint-index-requires : tie.Need-joint-index-requires
+joint-index-requires c κs = search needs
 
 load-requires : tie.Need-load-requires
 load-requires c κs = search needs
@@ -40,8 +33,8 @@ same-length-2 c = search needs
 returns-3 : tie.Need-returns-3
 unfolding leaderCommit
 returns-3 c =
-    let at-table = c .before .before .before .before .before .before .before .before .before .before .before in
-    long _ _ _ _ (omega arith) (long _ _ _ _ (omega arith) (cc (joint-index-asked (at-table .table .ensures) (at-table .before .config .ensures))))
+    let found = c .before .before .before .before .before .before .before .before .before .before in
+    long _ _ _ _ (omega arith) (long _ _ _ _ (omega arith) (cc (found .joint-index .ensures)))
 
 pub leader-maybe-commit-spec : {M : Type 1} → statement M
 leader-maybe-commit-spec =
@@ -49,9 +42,7 @@ leader-maybe-commit-spec =
     (tie.spec
     returns
     returns-2
-    config-requires
-    table-requires
-    committed-index-requires
+    joint-index-requires
     load-requires
     commit-found-requires
     write-decided-requires

@@ -2,21 +2,14 @@
 use borrow.Author.Needs.{needs}
 use native.Mathlib.Omega.{arith}
 use Rattle.exports.proofs.Lengths.{short, long}
-use Rattle.exports.proofs.Standing.{joint-index-asked}
 use Rattle.exports.proofs.quorums.joint_committed_index.Statement.{statement}
 use Rattle.exports.proofs.quorums.joint_committed_index.Tie as tie
 
 returns : tie.Need-returns
 returns c = short _ _ _ _ (omega arith)
 
-config-requires : tie.Need-config-requires
-config-requires c κs = search needs
-
-table-requires : tie.Need-table-requires
-table-requires c κs = search needs
-
-committed-index-requires : tie.Need-committed-index-requires
-committed-index-requires c κs = search needs
+joint-index-requires : tie.Need-joint-index-requires
+joint-index-requires c κs = search needs
 
 write-committed-requires : tie.Need-write-committed-requires
 write-committed-requires c κs = search needs
@@ -25,16 +18,14 @@ same-length : tie.Need-same-length
 same-length c = search needs
 
 returns-2 : tie.Need-returns-2
-returns-2 c = long _ _ _ _ (omega arith) (let at-table = c .before .before .before .before .before in cc (joint-index-asked (at-table .table .ensures) (at-table .before .config .ensures)))
+returns-2 c = long _ _ _ _ (omega arith) (cc (c .before .before .before .before .joint-index .ensures))
 
 pub joint-committed-index-spec : {M : Type 1} → statement M
 joint-committed-index-spec =
     tie.close
     (tie.spec
     returns
-    config-requires
-    table-requires
-    committed-index-requires
+    joint-index-requires
     write-committed-requires
     same-length
     returns-2)

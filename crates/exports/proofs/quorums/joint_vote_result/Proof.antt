@@ -2,21 +2,14 @@
 use borrow.Author.Needs.{needs}
 use native.Mathlib.Omega.{arith}
 use Rattle.exports.proofs.Lengths.{short, long}
-use Rattle.exports.proofs.Standing.{joint-verdict-asked}
 use Rattle.exports.proofs.quorums.joint_vote_result.Statement.{statement}
 use Rattle.exports.proofs.quorums.joint_vote_result.Tie as tie
 
 returns : tie.Need-returns
 returns c = short _ _ _ _ (omega arith)
 
-config-requires : tie.Need-config-requires
-config-requires c κs = search needs
-
-table-requires : tie.Need-table-requires
-table-requires c κs = search needs
-
-vote-result-requires : tie.Need-vote-result-requires
-vote-result-requires c κs = search needs
+joint-verdict-requires : tie.Need-joint-verdict-requires
+joint-verdict-requires c κs = search needs
 
 write-verdict-requires : tie.Need-write-verdict-requires
 write-verdict-requires c κs = search needs
@@ -25,16 +18,14 @@ same-length : tie.Need-same-length
 same-length c = search needs
 
 returns-2 : tie.Need-returns-2
-returns-2 c = long _ _ _ _ (omega arith) (let at-table = c .before .before .before .before .before in cc (joint-verdict-asked (at-table .table .ensures) (at-table .before .config .ensures)))
+returns-2 c = long _ _ _ _ (omega arith) (cc (c .before .before .before .before .joint-verdict .ensures))
 
 pub joint-vote-result-spec : {M : Type 1} → statement M
 joint-vote-result-spec =
     tie.close
     (tie.spec
     returns
-    config-requires
-    table-requires
-    vote-result-requires
+    joint-verdict-requires
     write-verdict-requires
     same-length
     returns-2)

@@ -1,6 +1,6 @@
 -- `row` meets its contract: each word is read at its place.
 use borrow.Author.Needs.{needs}
-use Rattle.exports.proofs.Laying.{row-at}
+use Rattle.exports.proofs.RowWords.{row-at}
 use Rattle.exports.proofs.rows.row.Statement.{statement}
 use Rattle.exports.proofs.rows.row.Tie as tie
 

@@ -4,8 +4,8 @@ use mathlib.Core.Path.{sym}
 use Prim.Native.Nat.{_≤_}
 use lib.ListN.{length, take}
 use borrow.Author.Needs.{needs}
-use Rattle.quorum.proofs.half.has.Statement.{statement}
-use Rattle.quorum.proofs.half.has.Tie as tie
+use Rattle.quorum.proofs.lookup.has.Statement.{statement}
+use Rattle.quorum.proofs.lookup.has.Tie as tie
 use lib.Seq.{length-take-le}
 use Rattle.quorum.proofs.IdLaws.{has-at}
 use Rattle.quorum.proofs.Sizes.{voters-length}

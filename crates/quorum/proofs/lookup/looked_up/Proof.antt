@@ -4,8 +4,8 @@ use native.Mathlib.Omega.{arith}
 use mathlib.Core.Path.{_≡_, ap, _∙_}
 use Prim.Native.Nat.{ℕ, _-_, _≤_}
 use lib.ListN.{set, take}
-use Rattle.quorum.proofs.half.looked_up.Statement.{statement}
-use Rattle.quorum.proofs.half.looked_up.Tie as tie
+use Rattle.quorum.proofs.lookup.looked_up.Statement.{statement}
+use Rattle.quorum.proofs.lookup.looked_up.Tie as tie
 use mathlib.Core.List.{map}
 use Rattle.quorum.specs.Limits.{voterLimit}
 use Rattle.quorum.specs.Ids.{padded}

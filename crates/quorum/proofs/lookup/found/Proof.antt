@@ -3,8 +3,8 @@ use mathlib.Core.Path.{sym, ap, _∙_}
 use Prim.Native.Nat.{ℕ}
 use lib.ListN.{getD, List·getD-eq-default}
 use borrow.Author.Needs.{needs}
-use Rattle.quorum.proofs.half.found.Statement.{statement}
-use Rattle.quorum.proofs.half.found.Tie as tie
+use Rattle.quorum.proofs.lookup.found.Statement.{statement}
+use Rattle.quorum.proofs.lookup.found.Tie as tie
 use Rattle.quorum.specs.Ids.{position}
 
 position-requires : tie.Need-position-requires

@@ -1,0 +1,71 @@
+-- `majority_index` meets its contract: the checks, and then what the one half says.
+use borrow.Author.Needs.{needs}
+use mathlib.Core.Path.{_≡_, sym, _∙_}
+use Rattle.units.specs.Refusals.{bothChecks}
+use Rattle.units.specs.declared.Check.the-variants as check
+use Rattle.quorum.specs.Rows.{rowsCheck}
+use Rattle.quorum.specs.Voters.{votersCheck, setOf}
+use Rattle.quorum.proofs.Checks.{handed-on}
+use Rattle.quorum.proofs.Answers.{checks-made}
+use Rattle.exports.specs.Rows.{peersFrom}
+use Rattle.exports.proofs.Asked.{index-refused, voters-few, index-at}
+use Rattle.exports.proofs.halves.majority_index.Statement.{statement}
+use Rattle.exports.proofs.halves.majority_index.Tie as tie
+
+abbrev start : tie.After-and → tie.Start
+start c = c .before .before .before .before .before
+
+made : (c : tie.After-and) → c .and .result ≡ bothChecks (votersCheck (setOf (start c .args .voters .now))) (rowsCheck (peersFrom (start c .args .rows .now)))
+made c = checks-made _ _ _ _ _ (c .and .ensures) (c .before .before .ids-checked .ensures) (c .before .rows-checked .ensures)
+
+-- what is known once the checks are passed
+abbrev asked : tie.After-enum-told → tie.After-and
+asked c = c .before .before
+
+fine : (c : tie.After-enum-told) → bothChecks (votersCheck (setOf (start (asked c) .args .voters .now))) (rowsCheck (peersFrom (start (asked c) .args .rows .now))) ≡ check.Fine
+fine c = sym (made (asked c)) ∙ c .enum-told .given .1
+
+ids-checked-requires : tie.Need-ids-checked-requires
+ids-checked-requires c κs = search needs
+
+rows-checked-requires : tie.Need-rows-checked-requires
+rows-checked-requires c κs = search needs
+
+and-requires : tie.Need-and-requires
+and-requires c κs = search needs
+
+enum-told : tie.Need-enum-told
+enum-told c = search needs
+
+enum-told-2 : tie.Need-enum-told-2
+enum-told-2 c = search needs
+
+refusal-requires : tie.Need-refusal-requires
+refusal-requires c κs = search needs
+
+returns : tie.Need-returns
+returns c =
+    let told = c .before .before .before in
+    index-refused (start told .args .voters .now) (start told .args .rows .now) (c .refusal .result) (handed-on _ _ _ _ (made told) (c .before .enum-told2 .given .1) (c .refusal .ensures))
+
+half-index-requires : tie.Need-half-index-requires
+half-index-requires c κs = voters-few (start (asked c) .args .voters .now) (start (asked c) .args .rows .now) (fine c)
+
+returns-2 : tie.Need-returns-2
+returns-2 c =
+    let told = asked (c .before) in
+    index-at (start told .args .voters .now) (start told .args .rows .now) (fine (c .before)) (c .half-index .result) (c .half-index .ensures)
+
+pub majority-index-spec : {M : Type 1} → statement M
+majority-index-spec =
+    tie.close
+    (tie.spec
+    ids-checked-requires
+    rows-checked-requires
+    and-requires
+    enum-told
+    enum-told-2
+    refusal-requires
+    returns
+    half-index-requires
+    returns-2)
