@@ -3,4 +3,5 @@ pub mod ReadBack
 pub mod Results
 pub mod Parts
 pub mod RowWords
+pub mod Standing
 pub mod Asked

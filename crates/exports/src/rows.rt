@@ -9,7 +9,9 @@ ghost use mathlib.Core.Path.{_≡_};
 ghost use mathlib.Core.List.{_∷_};
 ghost use Prim.Native.Nat.{_+_, _≤_};
 ghost use lib.ListN.{length, drop};
-ghost use Rattle.exports.specs.Rows.{rowLength, ackFrom, voteFrom, peersFrom, configFrom};
+ghost use Rattle.quorum.specs.Voters.{votersCheck, setOf};
+ghost use Rattle.quorum.specs.Joint.{configCheck};
+ghost use Rattle.exports.specs.Rows.{rowLength, ackFrom, voteFrom, peersFrom, configFrom, StandsFor};
 
 // Words of a peer row: id, 0 if its acknowledgement is missing, the acknowledged index, its vote.
 pub const ROW: usize = 4;
@@ -47,12 +49,19 @@ pub fn row(words: &[u64], at: usize) -> Peer
     }
 }
 
-// Both halves, broken or not: the sets of these ids.
+// The set of these ids, broken or not.
+pub fn voter_set(ids: &[u64]) -> Voters
+    ensures { λ r. ⌜ StandsFor votersCheck (setOf (now (ids .entry))) r ⌝ }
+{
+    Voters::holding(ids)
+}
+
+// Both halves.
 pub fn config(incoming: &[u64], outgoing: &[u64]) -> JointConfig
-    ensures { λ r. ⌜ r ≡ configFrom (now (incoming .entry)) (now (outgoing .entry)) ⌝ }
+    ensures { λ r. ⌜ StandsFor configCheck (configFrom (now (incoming .entry)) (now (outgoing .entry))) r ⌝ }
 {
     JointConfig {
-        incoming: Voters::holding(incoming),
-        outgoing: Voters::holding(outgoing),
+        incoming: voter_set(incoming),
+        outgoing: voter_set(outgoing),
     }
 }
