@@ -3,5 +3,4 @@ pub mod ReadBack
 pub mod Results
 pub mod Parts
 pub mod RowWords
-pub mod Standing
 pub mod Asked

@@ -1,13 +1,10 @@
 -- Voters and peer rows as words. A reader must know: the words of a slice of voters are their ids, and four words of a slice of rows are a row.
 -- Nothing is judged here: too many or repeated ids (12) are refused by each question of crate quorum, by the set and the rows that the words say.
 use Prim.Native.Nat.{ℕ}
-use mathlib.Core.Path.{_≡_}
 use mathlib.Core.Bool.{cond}
 use mathlib.Core.List.{List, [], _∷_, map}
 use lib.Dec.{eqb}
 use Rattle.units.specs.Units.{indexOf}
-use Rattle.units.specs.declared.Check.{Check}
-use Rattle.units.specs.declared.Check.the-variants as checks
 use Rattle.quorum.specs.Rows.{idOf, rowOf, valueFor}
 use Rattle.quorum.specs.Voters.{setOf}
 use Rattle.quorum.specs.declared.joint.JointConfig.{JointConfig}
@@ -53,8 +50,3 @@ readOf q words id = valueFor q (rowOf (peersFrom words) id)
 -- The two halves that two slices of ids say.
 abbrev pub configFrom : List ℕ → List ℕ → JointConfig
 configFrom incoming outgoing = record { incoming = setOf incoming; outgoing = setOf outgoing }
-
--- What the code hands to the questions. A set, or a configuration, that each question takes for another: its check says the same, and where it finds nothing wrong it is the same.
-pub record StandsFor {A : Type 0} (check : A → Check) (meant : A) (handed : A) : Type 0 where
-  pub refused-alike : check handed ≡ check meant
-  pub else-same : check meant ≡ checks.Fine → handed ≡ meant

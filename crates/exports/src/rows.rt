@@ -9,9 +9,7 @@ ghost use mathlib.Core.Path.{_≡_};
 ghost use mathlib.Core.List.{_∷_};
 ghost use Prim.Native.Nat.{_+_, _≤_};
 ghost use lib.ListN.{length, drop};
-ghost use Rattle.quorum.specs.Voters.{votersCheck, setOf};
-ghost use Rattle.quorum.specs.Joint.{configCheck};
-ghost use Rattle.exports.specs.Rows.{rowLength, ackFrom, voteFrom, peersFrom, configFrom, StandsFor};
+ghost use Rattle.exports.specs.Rows.{rowLength, ackFrom, voteFrom, peersFrom, configFrom};
 
 // Words of a peer row: id, 0 if its acknowledgement is missing, the acknowledged index, its vote.
 pub const ROW: usize = 4;
@@ -49,19 +47,12 @@ pub fn row(words: &[u64], at: usize) -> Peer
     }
 }
 
-// The set of these ids, broken or not.
-pub fn voter_set(ids: &[u64]) -> Voters
-    ensures { λ r. ⌜ StandsFor votersCheck (setOf (now (ids .entry))) r ⌝ }
-{
-    Voters::holding(ids)
-}
-
-// Both halves.
+// Both halves, broken or not: the sets of these ids.
 pub fn config(incoming: &[u64], outgoing: &[u64]) -> JointConfig
-    ensures { λ r. ⌜ StandsFor configCheck (configFrom (now (incoming .entry)) (now (outgoing .entry))) r ⌝ }
+    ensures { λ r. ⌜ r ≡ configFrom (now (incoming .entry)) (now (outgoing .entry)) ⌝ }
 {
     JointConfig {
-        incoming: voter_set(incoming),
-        outgoing: voter_set(outgoing),
+        incoming: Voters::holding(incoming),
+        outgoing: Voters::holding(outgoing),
     }
 }

@@ -17,11 +17,10 @@ use Rattle.rules.specs.Majority.{MajorityReached, Commits, insert, falling, kth
 use Rattle.rules.proofs.Count.{count-reordered}
 use Rattle.rules.proofs.Majority.{committed-commits}
 use Rattle.quorum.specs.Ids.{position, has, distinct}
-use Rattle.quorum.specs.Voters.{votersCheck, setOf, noVoters}
+use Rattle.quorum.specs.Voters.{setOf, noVoters}
 use Rattle.quorum.specs.Half.{halfIndex}
 use Rattle.quorum.specs.Votes.{Ends, free, yea, none as no-votes, Sure, Hopeless}
 use Rattle.quorum.specs.Joint.{oneSet, jointIndex, rising, bothIds}
-use Rattle.quorum.specs.declared.majority.Voters.{Voters}
 use Rattle.quorum.specs.declared.rows.Vote.{Vote}
 use Rattle.quorum.specs.declared.rows.Vote.the-variants as vote
 use Rattle.quorum.specs.declared.joint.JointConfig.{JointConfig}
@@ -72,7 +71,6 @@ use Rattle.leader.specs.Leader.{leaderCommit}
 use Rattle.leader.specs.Rule.{MayCommit}
 use Rattle.leader.proofs.Backed.{commits-by-the-rule}
 use Rattle.exports.specs.Words.{leaves}
-use Rattle.exports.specs.Rows.{StandsFor}
 use Rattle.exports.specs.Reads.{Holds as StoreHolds, Sound as SoundBounds}
 use Rattle.exports.specs.LogCalls.{newLeaves}
 use Rattle.exports.proofs.Results.{Tells, log-new-tells}
@@ -453,15 +451,6 @@ pub may-not-commit : (term : ℕ) (config : JointConfig) (peers : List Peer) →
 may-not-commit term config peers m = omega (arith, m .higher)
 
 -- ---- words across the boundary
-
--- A set stands for itself; for one that is refused, so does any that is refused. A set of another voter does not.
-pub stands-for : StandsFor votersCheck (setOf (1 ∷ 1 ∷ [])) (votersFrom 1 8)
-unfolding quorums
-stands-for = record { refused-alike = refl; else-same = λ fine. cc }
-
-pub not-stands-for : StandsFor votersCheck (setOf (1 ∷ [])) (setOf (2 ∷ [])) → ⊥
-unfolding quorums
-not-stands-for s = let z : _≡_ {A = ℕ} 2 1 = ap (λ (v : Voters). getD (v .ids) 0 0) (s .else-same refl) in omega arith
 
 -- A's pending store begins at 4 and has records 4 and 5; it does not have 3.
 pub store-holds : StoreHolds pendingA 4 4 6

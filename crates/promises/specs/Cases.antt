@@ -11,6 +11,7 @@ use Rattle.raft_log.specs.declared.ByTerm.{ByTerm}
 use Rattle.raft_log.specs.declared.ByTerm.the-variants as byterm
 use Rattle.raft_log.specs.declared.Appended.{Appended}
 use Rattle.raft_log.specs.declared.Appended.the-variants.{Done, Refused}
+use Rattle.two_ends.specs.Sanity.{log-with}
 use Rattle.raft_log.specs.Append.{appendAnswer, appendStore}
 use Rattle.raft_log.specs.Look.{lookTerm, byTerm}
 use Rattle.raft_log.specs.Setup.{fresh}
@@ -40,19 +41,10 @@ use Rattle.inflights.specs.declared.Fullness.the-variants.{Full, NotFull}
 
 -- ---- the log
 
--- Log A, but for the four numbers that a message moves.
+-- Log A, but for the four numbers that a message moves (offset, count, committed, persisted): start (0,0), applied 1.
 abbrev pub likeA : ℕ → ℕ → ℕ → ℕ → Log
-likeA offset count committed persisted = record {
-  start = indexOf 0;
-  startterm = termOf 0;
-  offset = indexOf offset;
-  count = count;
-  committed = indexOf committed;
-  persisted = indexOf persisted;
-  applied = indexOf 1;
-}
+likeA = log-with
 
--- Log A itself.
 abbrev pub logA : Log
 logA = likeA 4 2 2 3
 

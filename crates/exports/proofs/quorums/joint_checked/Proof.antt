@@ -1,7 +1,8 @@
--- `joint_checked` meets its contract: the configuration that is checked is refused as the one that the ids say.
+-- `joint_checked` meets its contract: the number is that of what the configuration is refused by.
 use borrow.Author.Needs.{needs}
 use mathlib.Core.Path.{ap, _∙_}
 use Rattle.units.specs.Refusals.{refusalOf}
+use Rattle.quorum.specs.Joint.{configCheck}
 use Rattle.exports.proofs.quorums.joint_checked.Statement.{statement}
 use Rattle.exports.proofs.quorums.joint_checked.Tie as tie
 
@@ -15,7 +16,7 @@ refusal-requires : tie.Need-refusal-requires
 refusal-requires c κs = search needs
 
 returns : tie.Need-returns
-returns c = c .refusal .ensures ∙ ap refusalOf (c .before .checked .ensures ∙ c .before .before .config .ensures .refused-alike)
+returns c = c .refusal .ensures ∙ ap refusalOf (c .before .checked .ensures ∙ ap configCheck (c .before .before .config .ensures))
 
 pub joint-checked-spec : {M : Type 1} → statement M
 joint-checked-spec = tie.close (tie.spec config-requires checked-requires refusal-requires returns)

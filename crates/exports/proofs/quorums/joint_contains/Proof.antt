@@ -1,8 +1,10 @@
 -- `joint_contains` meets its contract: too short a slice, or what the configuration answers.
 use borrow.Author.Needs.{needs}
+use mathlib.Core.Path.{ap}
 use native.Mathlib.Omega.{arith}
+use Rattle.quorum.specs.Joint.{containsOf}
+use Rattle.quorum.specs.declared.joint.JointConfig.{JointConfig}
 use Rattle.exports.proofs.Lengths.{short, long}
-use Rattle.exports.proofs.Standing.{contains-alike}
 use Rattle.exports.proofs.quorums.joint_contains.Statement.{statement}
 use Rattle.exports.proofs.quorums.joint_contains.Tie as tie
 
@@ -22,7 +24,7 @@ same-length : tie.Need-same-length
 same-length c = search needs
 
 returns-2 : tie.Need-returns-2
-returns-2 c = long _ _ _ _ (omega arith) (let at-config = c .before .before .before .before .before in cc (contains-alike (at-config .config .ensures) (at-config .before .before .before .before .before .args .id)))
+returns-2 c = long _ _ _ _ (omega arith) (let at-config = c .before .before .before .before .before in cc (ap (λ (config : JointConfig). containsOf config (at-config .before .before .before .before .before .args .id)) (at-config .config .ensures)))
 
 pub joint-contains-spec : {M : Type 1} → statement M
 joint-contains-spec =
