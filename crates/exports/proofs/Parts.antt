@@ -1,7 +1,7 @@
 -- The five words that `log_slice`, `log_entries` and `log_next_entries_since` answer name the part itself.
 -- What a caller finds by them are the very words that `slice`, `entries` and `next_entries_since` of crate raft_log give, and they lie inside the store.
 use mathlib.Core.Path.{_≡_, refl, sym, ap, _∙_, subst}
-use mathlib.Core.Bool.{Bool, true, false}
+use mathlib.Core.Bool.{Bool, true, false, cond}
 use mathlib.Core.List.{List, [], _∷_, _++_}
 use Prim.Native.Nat.{ℕ, _+_, _-_, _*_, _≤_, _<_}
 use native.Mathlib.Omega.{arith}
@@ -14,17 +14,17 @@ use Rattle.raft_log.specs.declared.Bounds.{Bounds}
 use Rattle.raft_log.specs.declared.Bounds.the-variants as bounds
 use Rattle.raft_log.specs.Words.{recordWords}
 use Rattle.raft_log.specs.State.{Good, broken, lastOf}
-use Rattle.raft_log.specs.Slice.{boundsIf, inStore, sliceIn, sliceBounds, entriesBounds, nextLow, nextHigh, hasNext, nextBounds, storePart, partOf}
+use Rattle.raft_log.specs.Slice.{inStore, sliceIn, sliceBounds, entriesBounds, nextLow, nextHigh, hasNext, nextBounds, storePart, partOf}
 use Rattle.raft_log.proofs.States.{ok-good}
 use Rattle.raft_log.proofs.Slices.{next-true, part-some}
-use Rattle.exports.specs.Words.{partLength, logFrom, put, Outcome, leaves}
-use Rattle.exports.specs.Reads.{partWords, inSettled, inPending, boundsLeaves, reading, sliceLeaves, entriesLeaves, nextEntriesSinceLeaves, storeAt, partAt, Holds, Sound}
+use Rattle.exports.specs.Words.{partLength, logFrom, put, Outcome, leaves, reading, logLength}
+use Rattle.exports.specs.Reads.{partWords, inSettled, inPending, boundsLeaves, sliceLeaves, entriesLeaves, nextEntriesSinceLeaves, storeAt, partAt, Holds, Sound}
 use Rattle.exports.proofs.Lengths.{by-length}
 use Rattle.exports.proofs.ReadBack.{put-splits}
 
 -- ---- What the three calls answer is sound
 
-by-test : (P : Bounds → Type 0) (b : Bool) {x y : Bounds} → (b ≡ true → P x) → (b ≡ false → P y) → P (boundsIf b x y)
+by-test : (P : Bounds → Type 0) (b : Bool) {x y : Bounds} → (b ≡ true → P x) → (b ≡ false → P y) → P (cond b x y)
 by-test P true f g = f refl
 by-test P false f g = g refl
 
@@ -54,7 +54,7 @@ module _ (l : Log) (settled pending : List ℕ) where
         (λ b. by-test Fair (ltb (lastOf l + 1) high) (λ _ z. omega arith)
         (λ d. in-store (leb-false low (l .start .0) b) (ltb-false high low a) (ltb-false (lastOf l + 1) high d))))
 
-  unless-broken : (said : Bounds) → (Good l settled pending → Fair said) → Fair (boundsIf (broken l settled pending) (bounds.Refused brokenState) said)
+  unless-broken : (said : Bounds) → (Good l settled pending → Fair said) → Fair (cond (broken l settled pending) (bounds.Refused brokenState) said)
   unless-broken said fair = by-test Fair (broken l settled pending) (λ _ z. omega arith) (λ b. fair (ok-good l settled pending (not-false _ b)))
 
   pub slice-sound : (low high : ℕ) → Fair (sliceBounds l settled pending low high)
@@ -113,7 +113,7 @@ module _ (log settled pending answer : List ℕ) where
         (record { part = held-part pending _ _ _ held; inside = held-inside pending _ _ _ held })
     answer-names (bounds.Refused number) sound z = absurd (sound z)
 
-  reading-names : (said : Bounds) → Sound said l settled pending → Names said (reading log partLength answer (boundsLeaves said l answer))
+  reading-names : (said : Bounds) → Sound said l settled pending → Names said (reading log logLength partLength answer (boundsLeaves said l answer))
   reading-names said sound =
       let refused : Names said (leaves brokenState (answer ∷ [])) = λ z. absurd (omega arith) in
       by-length _ _ _ _ (Names said) refused (λ _. by-length _ _ _ _ (Names said) refused (λ long. answer-names long said sound))

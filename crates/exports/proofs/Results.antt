@@ -9,15 +9,17 @@ use lib.ListN.{length}
 use Rattle.units.specs.Refusals.{refusalOf, fineOr, bothChecks}
 use Rattle.units.specs.declared.Check.{Check}
 use Rattle.units.specs.declared.Check.the-variants as check
+use Rattle.units.proofs.Cond.{both-ends}
+use Rattle.units.proofs.Never.{never}
 use Rattle.raft_log.specs.Words.{runCount}
 use Rattle.raft_log.specs.State.{broken, lastOf}
 use Rattle.raft_log.specs.Run.{misnumbered, zeroTermIn}
-use Rattle.raft_log.specs.Append.{afterMessage, outside, mismatched, cuts, overfull, decide, matchRun, appendAnswer, appendStore, refuseIf as refuseAppended}
-use Rattle.raft_log.specs.Extend.{firstOf, badRun, startsCommitted, leavesGap, startsPersisted, unlessEmpty, extendFrom, extendAnswer, extendStore, extended as extendedLog, refuseIf as refuseExtended}
-use Rattle.raft_log.specs.Commit.{refuseIf, changedIf, decideUnless, yesIf, mayCommit, mayPersist, commitTo, appliedTo, maybeCommit, maybePersist}
+use Rattle.raft_log.specs.Append.{afterMessage, outside, mismatched, cuts, overfull, decide, matchRun, appendAnswer, appendStore}
+use Rattle.raft_log.specs.Extend.{firstOf, badRun, startsCommitted, leavesGap, startsPersisted, extendFrom, extendAnswer, extendStore, extended as extendedLog}
+use Rattle.raft_log.specs.Commit.{mayCommit, mayPersist, commitTo, appliedTo, maybeCommit, maybePersist}
 use Rattle.raft_log.specs.Settle.{settledOverfull, isLast, settleAnswer, settleStore}
 use Rattle.raft_log.specs.Setup.{setupOk, settledZero, setupAnswer}
-use Rattle.raft_log.specs.Look.{termUnless, indexUnless, isUnless, infoUnless, lookTerm, lookFirst, lookLast, lookLastTerm, lookCommit, lookUpToDate, either, byTermIn, byTerm}
+use Rattle.raft_log.specs.Look.{lookTerm, lookFirst, lookLast, lookLastTerm, lookCommit, lookUpToDate, byTermIn, byTerm}
 use Rattle.raft_log.specs.Slice.{sliceBounds, entriesBounds, nextBounds, hasNextSince}
 use Rattle.raft_log.specs.declared.Log.{Log}
 use Rattle.raft_log.specs.declared.Appended.{Appended}
@@ -29,9 +31,13 @@ use Rattle.raft_log.specs.declared.Changed.the-variants as changed
 use Rattle.raft_log.specs.declared.Decided.{Decided}
 use Rattle.raft_log.specs.declared.Decided.the-variants as decided
 use Rattle.raft_log.specs.declared.Looked.the-variants as looked
+use Rattle.raft_log.specs.declared.Looked.{Looked}
 use Rattle.raft_log.specs.declared.Placed.the-variants as placed
+use Rattle.raft_log.specs.declared.Placed.{Placed}
 use Rattle.raft_log.specs.declared.Told.the-variants as told
+use Rattle.raft_log.specs.declared.Told.{Told}
 use Rattle.raft_log.specs.declared.Info.the-variants as info
+use Rattle.raft_log.specs.declared.Info.{Info}
 use Rattle.raft_log.specs.declared.ByTerm.{ByTerm}
 use Rattle.raft_log.specs.declared.ByTerm.the-variants as byterm
 use Rattle.raft_log.specs.declared.Bounds.{Bounds}
@@ -78,7 +84,7 @@ module _ {A : Type 0} {refused : ℕ → A} {said : A} {slices : List (List ℕ)
 
   -- an answer that is none (then 0 would be 1),
   answers : {left : List (List ℕ)} → ((n : ℕ) → said ≡ refused n → _≡_ {A = ℕ} 0 1) → Tells refused said slices (leaves 0 left)
-  answers h = record { keeps = λ g. absurd (g refl); taken = λ z n e. let never : _≡_ {A = ℕ} 0 1 = h n e in omega arith }
+  answers h = record { keeps = λ g. absurd (g refl); taken = λ z n e. never (h n e) }
 
   -- and each of them behind a test of a slice's length.
   behind : (slice : List ℕ) (words : ℕ) {out : Outcome} → Tells refused said slices out → Tells refused said slices (unlessShort slice words slices out)
@@ -90,7 +96,7 @@ Numbered c = (n : ℕ) → c ≡ check.Refused n → n ≡ 0 → ⊥
 
 -- So are a rule's own check, and both of two such checks.
 fine-numbered : (b : Bool) {number : ℕ} → (number ≡ 0 → ⊥) → Numbered (fineOr b number)
-fine-numbered true h n e z = let never : _≡_ {A = ℕ} 0 1 = cc in omega arith
+fine-numbered true h n e z = never cc
 fine-numbered false {number} h n e z = h (let same : number ≡ n = cc in omega arith)
 
 both-numbered : (c : Check) {d : Check} → Numbered c → Numbered d → Numbered (bothChecks c d)
@@ -98,16 +104,6 @@ both-numbered check.Fine g h = h
 both-numbered (check.Refused n) g h = g
 
 -- ---- The log
-
--- What holds of both ends of a test holds of the answer.
-module _ (P : Changed → Type 0) where
-  changed-refused : (b : Bool) {number : ℕ} {said : Changed} → P (changed.Refused number) → P said → P (refuseIf b number said)
-  changed-refused true p q = p
-  changed-refused false p q = q
-
-  changed-either : (b : Bool) {x y : Changed} → P x → P y → P (changedIf b x y)
-  changed-either true p q = p
-  changed-either false p q = q
 
 -- An answer without values.
 abbrev Changes : List ℕ → Changed → Type 0
@@ -117,33 +113,25 @@ pub log-new-tells : (start startterm last : ℕ) (settled log : List ℕ) → Te
 unfolding setupAnswer
 log-new-tells start startterm last settled log =
     behind _ _
-    (changed-refused (Changes log) (not (setupOk start startterm last settled)) (refuses (omega arith))
-    (changed-refused (Changes log) (settledZero settled (last - start)) (refuses (omega arith)) (answers (λ n e. cc))))
+    (both-ends (Changes log) (not (setupOk start startterm last settled)) (refuses (omega arith))
+    (both-ends (Changes log) (settledZero settled (last - start)) (refuses (omega arith)) (answers (λ n e. cc))))
 
 -- What each answer of the calls that only read tells.
 module _ (answer : List ℕ) where
-  looked-tells : (b : Bool) (t : ℕ) → Tells looked.Refused (termUnless b t) (answer ∷ []) (lookedLeaves (termUnless b t) answer)
-  looked-tells true t = refuses (omega arith)
-  looked-tells false t = answers (λ n e. cc)
+  abbrev Looks : Looked → Type 0
+  Looks said = Tells looked.Refused said (answer ∷ []) (lookedLeaves said answer)
 
-  placed-tells : (b : Bool) (i : ℕ) → Tells placed.Refused (indexUnless b i) (answer ∷ []) (placedLeaves (indexUnless b i) answer)
-  placed-tells true i = refuses (omega arith)
-  placed-tells false i = answers (λ n e. cc)
+  abbrev Places : Placed → Type 0
+  Places said = Tells placed.Refused said (answer ∷ []) (placedLeaves said answer)
 
-  told-tells : (b is : Bool) → Tells told.Refused (isUnless b is) (answer ∷ []) (toldLeaves (isUnless b is) answer)
-  told-tells true is = refuses (omega arith)
-  told-tells false is = answers (λ n e. cc)
+  abbrev Says : Told → Type 0
+  Says said = Tells told.Refused said (answer ∷ []) (toldLeaves said answer)
 
-  info-tells : (b : Bool) (i t : ℕ) → Tells info.Refused (infoUnless b i t) (answer ∷ []) (infoLeaves (infoUnless b i t) answer)
-  info-tells true i t = refuses (omega arith)
-  info-tells false i t = answers (λ n e. cc)
+  abbrev Informs : Info → Type 0
+  Informs said = Tells info.Refused said (answer ∷ []) (infoLeaves said answer)
 
   abbrev Finds : ByTerm → Type 0
   Finds said = Tells byterm.Refused said (answer ∷ []) (byTermLeaves said answer)
-
-  by-term-either : (b : Bool) {x y : ByTerm} → Finds x → Finds y → Finds (either b x y)
-  by-term-either true p q = p
-  by-term-either false p q = q
 
   bounds-tells : (said : Bounds) (l : Log) (settled pending : List ℕ) → Sound said l settled pending → Tells bounds.Refused said (answer ∷ []) (boundsLeaves said l answer)
   bounds-tells bounds.Empty l settled pending s = answers (λ n e. cc)
@@ -154,121 +142,99 @@ module _ (answer : List ℕ) where
 module _ (log settled pending : List ℕ) where
   pub log-term-tells : (i : ℕ) (answer : List ℕ) → Tells looked.Refused (lookTerm (logFrom log) settled pending i) (answer ∷ []) (termLeaves log settled pending i answer)
   unfolding lookTerm
-  log-term-tells i answer = behind _ _ (behind _ _ (looked-tells answer (broken (logFrom log) settled pending) _))
+  log-term-tells i answer = behind _ _ (behind _ _ (both-ends (Looks answer) (broken (logFrom log) settled pending) (refuses (omega arith)) (answers (λ n e. cc))))
 
   pub log-first-index-tells : (answer : List ℕ) → Tells placed.Refused (lookFirst (logFrom log) settled pending) (answer ∷ []) (firstIndexLeaves log settled pending answer)
   unfolding lookFirst
-  log-first-index-tells answer = behind _ _ (behind _ _ (placed-tells answer (broken (logFrom log) settled pending) _))
+  log-first-index-tells answer = behind _ _ (behind _ _ (both-ends (Places answer) (broken (logFrom log) settled pending) (refuses (omega arith)) (answers (λ n e. cc))))
 
   pub log-last-index-tells : (answer : List ℕ) → Tells placed.Refused (lookLast (logFrom log) settled pending) (answer ∷ []) (lastIndexLeaves log settled pending answer)
   unfolding lookLast
-  log-last-index-tells answer = behind _ _ (behind _ _ (placed-tells answer (broken (logFrom log) settled pending) _))
+  log-last-index-tells answer = behind _ _ (behind _ _ (both-ends (Places answer) (broken (logFrom log) settled pending) (refuses (omega arith)) (answers (λ n e. cc))))
 
   pub log-last-term-tells : (answer : List ℕ) → Tells looked.Refused (lookLastTerm (logFrom log) settled pending) (answer ∷ []) (lastTermLeaves log settled pending answer)
   unfolding lookLastTerm
-  log-last-term-tells answer = behind _ _ (behind _ _ (looked-tells answer (broken (logFrom log) settled pending) _))
+  log-last-term-tells answer = behind _ _ (behind _ _ (both-ends (Looks answer) (broken (logFrom log) settled pending) (refuses (omega arith)) (answers (λ n e. cc))))
 
   pub log-commit-info-tells : (answer : List ℕ) → Tells info.Refused (lookCommit (logFrom log) settled pending) (answer ∷ []) (commitInfoLeaves log settled pending answer)
   unfolding lookCommit
-  log-commit-info-tells answer = behind _ _ (behind _ _ (info-tells answer (broken (logFrom log) settled pending) _ _))
+  log-commit-info-tells answer = behind _ _ (behind _ _ (both-ends (Informs answer) (broken (logFrom log) settled pending) (refuses (omega arith)) (answers (λ n e. cc))))
 
   pub log-is-up-to-date-tells : (i t : ℕ) (answer : List ℕ) → Tells told.Refused (lookUpToDate (logFrom log) settled pending i t) (answer ∷ []) (isUpToDateLeaves log settled pending i t answer)
   unfolding lookUpToDate
-  log-is-up-to-date-tells i t answer = behind _ _ (behind _ _ (told-tells answer (broken (logFrom log) settled pending) _))
+  log-is-up-to-date-tells i t answer = behind _ _ (behind _ _ (both-ends (Says answer) (broken (logFrom log) settled pending) (refuses (omega arith)) (answers (λ n e. cc))))
 
   pub log-find-conflict-by-term-tells : (i t : ℕ) (answer : List ℕ) → Tells byterm.Refused (byTerm (logFrom log) settled pending i t) (answer ∷ []) (findConflictByTermLeaves log settled pending i t answer)
   unfolding byTerm byTermIn
   log-find-conflict-by-term-tells i t answer =
       behind _ _ (behind _ _
-      (by-term-either answer (broken (logFrom log) settled pending) (refuses (omega arith))
-      (by-term-either answer (ltb (lastOf (logFrom log)) i) (answers (λ n e. cc)) (answers (λ n e. cc)))))
+      (both-ends (Finds answer) (broken (logFrom log) settled pending) (refuses (omega arith))
+      (both-ends (Finds answer) (ltb (lastOf (logFrom log)) i) (answers (λ n e. cc)) (answers (λ n e. cc)))))
 
 module _ (log settled pending : List ℕ) (idx term commit : ℕ) (run answer : List ℕ) where
   -- An answer of `maybe_append`, and the pending store after it.
   abbrev Appends : Appended → Type 0
   Appends said = Tells appended.Refused said (pending ∷ log ∷ answer ∷ []) (withStore (appendStore said pending idx run) (appendedLeaves said log answer))
 
-  append-refused : (b : Bool) {number : ℕ} {said : Appended} → (number ≡ 0 → ⊥) → Appends said → Appends (refuseAppended b number said)
-  unfolding appendStore
-  append-refused true h g = refuses h
-  append-refused false h g = g
-
   pub log-maybe-append-tells : Tells appended.Refused (appendAnswer (logFrom log) settled pending idx term commit run) (pending ∷ log ∷ answer ∷ []) (maybeAppendLeaves log settled pending idx term commit run answer)
   unfolding appendAnswer matchRun decide appendStore
   log-maybe-append-tells =
       behind _ _ (behind _ _
-      (append-refused (broken (logFrom log) settled pending) (omega arith)
-      (append-refused (misnumbered run idx) (omega arith)
-      (append-refused (zeroTermIn run) (omega arith)
-      (append-refused (outside (logFrom log) idx term) (omega arith)
-      (append-refused (mismatched (logFrom log) settled pending idx term) (omega arith)
-      (append-refused (cuts (logFrom log) idx (runCount run) _) (omega arith)
-      (append-refused (overfull (afterMessage (logFrom log) idx (runCount run) _ commit) pending) (omega arith) (answers (λ n e. cc))))))))))
+      (both-ends Appends (broken (logFrom log) settled pending) (refuses (omega arith))
+      (both-ends Appends (misnumbered run idx) (refuses (omega arith))
+      (both-ends Appends (zeroTermIn run) (refuses (omega arith))
+      (both-ends Appends (outside (logFrom log) idx term) (refuses (omega arith))
+      (both-ends Appends (mismatched (logFrom log) settled pending idx term) (refuses (omega arith))
+      (both-ends Appends (cuts (logFrom log) idx (runCount run) _) (refuses (omega arith))
+      (both-ends Appends (overfull (afterMessage (logFrom log) idx (runCount run) _ commit) pending) (refuses (omega arith)) (answers (λ n e. cc))))))))))
 
 module _ (log settled pending run answer : List ℕ) where
   -- An answer of `append`, and the pending store after it.
   abbrev Extends : Extended → Type 0
   Extends said = Tells extended.Refused said (pending ∷ log ∷ answer ∷ []) (withStore (extendStore said pending run) (extendedLeaves said log answer))
 
-  extend-refused : (b : Bool) {number : ℕ} {said : Extended} → (number ≡ 0 → ⊥) → Extends said → Extends (refuseExtended b number said)
-  unfolding extendStore
-  extend-refused true h g = refuses h
-  extend-refused false h g = g
-
-  extend-either : (b : Bool) {x y : Extended} → Extends x → Extends y → Extends (unlessEmpty b x y)
-  extend-either true p q = p
-  extend-either false p q = q
-
   pub log-append-tells : Tells extended.Refused (extendAnswer (logFrom log) settled pending run) (pending ∷ log ∷ answer ∷ []) (appendLeaves log settled pending run answer)
   unfolding extendAnswer extendFrom extendStore
   log-append-tells =
       behind _ _ (behind _ _
-      (extend-refused (broken (logFrom log) settled pending) (omega arith)
-      (extend-refused (badRun run) (omega arith)
-      (extend-refused (zeroTermIn run) (omega arith)
-      (extend-either (eqb (length run) 0) (answers (λ n e. cc))
-      (extend-refused (startsCommitted (logFrom log) (firstOf run)) (omega arith)
-      (extend-refused (leavesGap (logFrom log) (firstOf run)) (omega arith)
-      (extend-refused (overfull (extendedLog (logFrom log) (firstOf run) (runCount run)) pending) (omega arith)
-      (extend-refused (startsPersisted (logFrom log) (firstOf run)) (omega arith) (answers (λ n e. cc)))))))))))
+      (both-ends Extends (broken (logFrom log) settled pending) (refuses (omega arith))
+      (both-ends Extends (badRun run) (refuses (omega arith))
+      (both-ends Extends (zeroTermIn run) (refuses (omega arith))
+      (both-ends Extends (eqb (length run) 0) (answers (λ n e. cc))
+      (both-ends Extends (startsCommitted (logFrom log) (firstOf run)) (refuses (omega arith))
+      (both-ends Extends (leavesGap (logFrom log) (firstOf run)) (refuses (omega arith))
+      (both-ends Extends (overfull (extendedLog (logFrom log) (firstOf run) (runCount run)) pending) (refuses (omega arith))
+      (both-ends Extends (startsPersisted (logFrom log) (firstOf run)) (refuses (omega arith)) (answers (λ n e. cc)))))))))))
 
 -- An answer yes or no, and the state after it.
 module _ (log answer : List ℕ) where
   abbrev Decides : Decided → Type 0
   Decides said = Tells decided.Refused said (log ∷ answer ∷ []) (decidedLeaves said log answer)
 
-  decided-tells : (b : Bool) {said : Decided} → Decides said → Decides (decideUnless b said)
-  decided-tells true g = refuses (omega arith)
-  decided-tells false g = g
-
-  yes-tells : (b : Bool) (l : Log) → Decides (yesIf b l)
-  yes-tells true l = answers (λ n e. cc)
-  yes-tells false l = answers (λ n e. cc)
-
 module _ (log settled pending : List ℕ) where
   pub log-commit-to-tells : (i : ℕ) → Tells changed.Refused (commitTo (logFrom log) settled pending i) (log ∷ []) (commitToLeaves log settled pending i)
   unfolding commitTo
   log-commit-to-tells i =
       behind _ _
-      (changed-refused (Changes log) (broken (logFrom log) settled pending) (refuses (omega arith))
-      (changed-either (Changes log) (leb i (logFrom log .committed .0)) (answers (λ n e. cc))
-      (changed-refused (Changes log) (ltb (lastOf (logFrom log)) i) (refuses (omega arith)) (answers (λ n e. cc)))))
+      (both-ends (Changes log) (broken (logFrom log) settled pending) (refuses (omega arith))
+      (both-ends (Changes log) (leb i (logFrom log .committed .0)) (answers (λ n e. cc))
+      (both-ends (Changes log) (ltb (lastOf (logFrom log)) i) (refuses (omega arith)) (answers (λ n e. cc)))))
 
   pub log-maybe-commit-tells : (i t : ℕ) (answer : List ℕ) → Tells decided.Refused (maybeCommit (logFrom log) settled pending i t) (log ∷ answer ∷ []) (maybeCommitLeaves log settled pending i t answer)
   unfolding maybeCommit
-  log-maybe-commit-tells i t answer = behind _ _ (behind _ _ (decided-tells log answer (broken (logFrom log) settled pending) (yes-tells log answer (mayCommit (logFrom log) settled pending i t) _)))
+  log-maybe-commit-tells i t answer = behind _ _ (behind _ _ (both-ends (Decides log answer) (broken (logFrom log) settled pending) (refuses (omega arith)) (both-ends (Decides log answer) (mayCommit (logFrom log) settled pending i t) (answers (λ n e. cc)) (answers (λ n e. cc)))))
 
   pub log-applied-to-tells : (i : ℕ) → Tells changed.Refused (appliedTo (logFrom log) settled pending i) (log ∷ []) (appliedToLeaves log settled pending i)
   unfolding appliedTo
   log-applied-to-tells i =
       behind _ _
-      (changed-refused (Changes log) (broken (logFrom log) settled pending) (refuses (omega arith))
-      (changed-either (Changes log) (eqb i 0) (answers (λ n e. cc))
-      (changed-refused (Changes log) (ltb (min (logFrom log .committed .0) (logFrom log .persisted .0)) i || ltb i (logFrom log .applied .0)) (refuses (omega arith)) (answers (λ n e. cc)))))
+      (both-ends (Changes log) (broken (logFrom log) settled pending) (refuses (omega arith))
+      (both-ends (Changes log) (eqb i 0) (answers (λ n e. cc))
+      (both-ends (Changes log) (ltb (min (logFrom log .committed .0) (logFrom log .persisted .0)) i || ltb i (logFrom log .applied .0)) (refuses (omega arith)) (answers (λ n e. cc)))))
 
   pub log-maybe-persist-tells : (i t : ℕ) (answer : List ℕ) → Tells decided.Refused (maybePersist (logFrom log) settled pending i t) (log ∷ answer ∷ []) (maybePersistLeaves log settled pending i t answer)
   unfolding maybePersist
-  log-maybe-persist-tells i t answer = behind _ _ (behind _ _ (decided-tells log answer (broken (logFrom log) settled pending) (yes-tells log answer (mayPersist (logFrom log) settled i t) _)))
+  log-maybe-persist-tells i t answer = behind _ _ (behind _ _ (both-ends (Decides log answer) (broken (logFrom log) settled pending) (refuses (omega arith)) (both-ends (Decides log answer) (mayPersist (logFrom log) settled i t) (answers (λ n e. cc)) (answers (λ n e. cc)))))
 
   -- An answer without values, and the settled store after it.
   abbrev Settles : Changed → Type 0
@@ -278,9 +244,9 @@ module _ (log settled pending : List ℕ) where
   unfolding settleAnswer settleStore
   log-stable-entries-tells i t =
       behind _ _
-      (changed-refused Settles (broken (logFrom log) settled pending) (refuses (omega arith))
-      (changed-refused Settles (settledOverfull (logFrom log) settled) (refuses (omega arith))
-      (changed-refused Settles (not (isLast (logFrom log) settled pending i t)) (refuses (omega arith)) (answers (λ n e. cc)))))
+      (both-ends Settles (broken (logFrom log) settled pending) (refuses (omega arith))
+      (both-ends Settles (settledOverfull (logFrom log) settled) (refuses (omega arith))
+      (both-ends Settles (not (isLast (logFrom log) settled pending i t)) (refuses (omega arith)) (answers (λ n e. cc)))))
 
   pub log-slice-tells : (low high : ℕ) (answer : List ℕ) → Tells bounds.Refused (sliceBounds (logFrom log) settled pending low high) (answer ∷ []) (sliceLeaves log settled pending low high answer)
   log-slice-tells low high answer = behind _ _ (behind _ _ (bounds-tells answer _ _ settled pending (slice-sound (logFrom log) settled pending low high)))
@@ -293,7 +259,7 @@ module _ (log settled pending : List ℕ) where
 
   pub log-has-next-entries-since-tells : (s : ℕ) (answer : List ℕ) → Tells told.Refused (hasNextSince (logFrom log) settled pending s) (answer ∷ []) (hasNextEntriesSinceLeaves log settled pending s answer)
   unfolding hasNextSince
-  log-has-next-entries-since-tells s answer = behind _ _ (behind _ _ (told-tells answer (broken (logFrom log) settled pending) _))
+  log-has-next-entries-since-tells s answer = behind _ _ (behind _ _ (both-ends (Says answer) (broken (logFrom log) settled pending) (refuses (omega arith)) (answers (λ n e. cc))))
 
 -- ---- The quorums, and the leader's step
 
@@ -380,8 +346,8 @@ module _ (log settled pending : List ℕ) (term : ℕ) (incoming outgoing rows a
   -- The step on the index that was found, by the check of the sets and rows.
   found-tells : (c : Check) (h : Half) → Numbered c → Decides log answer (commitFound (logFrom log) settled pending term (committedUnless c h))
   unfolding maybeCommit
-  found-tells check.Fine h g = decided-tells log answer (broken (logFrom log) settled pending) (yes-tells log answer (mayCommit (logFrom log) settled pending (h .index) term) _)
-  found-tells (check.Refused m) h g = decided-tells log answer (broken (logFrom log) settled pending) (refuses (g m refl))
+  found-tells check.Fine h g = both-ends (Decides log answer) (broken (logFrom log) settled pending) (refuses (omega arith)) (both-ends (Decides log answer) (mayCommit (logFrom log) settled pending (h .index) term) (answers (λ n e. cc)) (answers (λ n e. cc)))
+  found-tells (check.Refused m) h g = both-ends (Decides log answer) (broken (logFrom log) settled pending) (refuses (omega arith)) (refuses (g m refl))
 
   pub leader-maybe-commit-tells : Tells decided.Refused (leaderCommit (logFrom log) settled pending term (configFrom incoming outgoing) (peersFrom rows)) (log ∷ answer ∷ []) (leaderCommitLeaves log settled pending term incoming outgoing rows answer)
   unfolding leaderCommit jointIndex

@@ -22,7 +22,7 @@ use Rattle.raft_log.specs.declared.ByTerm.{ByTerm}
 use Rattle.raft_log.specs.declared.ByTerm.the-variants as byterm
 use Rattle.raft_log.specs.declared.Bounds.{Bounds}
 use Rattle.raft_log.specs.declared.Bounds.the-variants as bounds
-use Rattle.exports.specs.Words.{logLength, singleLength, pairLength, tripleLength, partLength, logFrom, flagWord, put, Outcome, leaves, unlessShort}
+use Rattle.exports.specs.Words.{logLength, singleLength, pairLength, tripleLength, partLength, logFrom, flagWord, put, Outcome, leaves, reading}
 
 -- What an answer with a term leaves of `answer`: the term; or the refusal's number as the result.
 abbrev pub lookedLeaves : Looked → List ℕ → Outcome
@@ -70,53 +70,49 @@ boundsLeaves (bounds.Settled low high) l answer = leaves 0 (put answer (partWord
 boundsLeaves (bounds.Pending low high) l answer = leaves 0 (put answer (partWords inPending (l .offset .0) (low .0) (high .0)) ∷ [])
 boundsLeaves (bounds.Refused number) l answer = leaves number (answer ∷ [])
 
--- What a call that only reads leaves, where its slices are long enough for the state and for so many words of an answer.
-abbrev pub reading : List ℕ → ℕ → List ℕ → Outcome → Outcome
-reading log words answer out = unlessShort log logLength (answer ∷ []) (unlessShort answer words (answer ∷ []) out)
-
 -- THE PROMISE of `log_term`: what it leaves of `answer`. So for the others below.
 abbrev pub termLeaves : List ℕ → List ℕ → List ℕ → ℕ → List ℕ → Outcome
-termLeaves log settled pending i answer = reading log singleLength answer (lookedLeaves (lookTerm (logFrom log) settled pending i) answer)
+termLeaves log settled pending i answer = reading log logLength singleLength answer (lookedLeaves (lookTerm (logFrom log) settled pending i) answer)
 
 -- THE PROMISE of `log_first_index`.
 abbrev pub firstIndexLeaves : List ℕ → List ℕ → List ℕ → List ℕ → Outcome
-firstIndexLeaves log settled pending answer = reading log singleLength answer (placedLeaves (lookFirst (logFrom log) settled pending) answer)
+firstIndexLeaves log settled pending answer = reading log logLength singleLength answer (placedLeaves (lookFirst (logFrom log) settled pending) answer)
 
 -- THE PROMISE of `log_last_index`.
 abbrev pub lastIndexLeaves : List ℕ → List ℕ → List ℕ → List ℕ → Outcome
-lastIndexLeaves log settled pending answer = reading log singleLength answer (placedLeaves (lookLast (logFrom log) settled pending) answer)
+lastIndexLeaves log settled pending answer = reading log logLength singleLength answer (placedLeaves (lookLast (logFrom log) settled pending) answer)
 
 -- THE PROMISE of `log_last_term`.
 abbrev pub lastTermLeaves : List ℕ → List ℕ → List ℕ → List ℕ → Outcome
-lastTermLeaves log settled pending answer = reading log singleLength answer (lookedLeaves (lookLastTerm (logFrom log) settled pending) answer)
+lastTermLeaves log settled pending answer = reading log logLength singleLength answer (lookedLeaves (lookLastTerm (logFrom log) settled pending) answer)
 
 -- THE PROMISE of `log_commit_info`.
 abbrev pub commitInfoLeaves : List ℕ → List ℕ → List ℕ → List ℕ → Outcome
-commitInfoLeaves log settled pending answer = reading log pairLength answer (infoLeaves (lookCommit (logFrom log) settled pending) answer)
+commitInfoLeaves log settled pending answer = reading log logLength pairLength answer (infoLeaves (lookCommit (logFrom log) settled pending) answer)
 
 -- THE PROMISE of `log_is_up_to_date`.
 abbrev pub isUpToDateLeaves : List ℕ → List ℕ → List ℕ → ℕ → ℕ → List ℕ → Outcome
-isUpToDateLeaves log settled pending i t answer = reading log singleLength answer (toldLeaves (lookUpToDate (logFrom log) settled pending i t) answer)
+isUpToDateLeaves log settled pending i t answer = reading log logLength singleLength answer (toldLeaves (lookUpToDate (logFrom log) settled pending i t) answer)
 
 -- THE PROMISE of `log_find_conflict_by_term`.
 abbrev pub findConflictByTermLeaves : List ℕ → List ℕ → List ℕ → ℕ → ℕ → List ℕ → Outcome
-findConflictByTermLeaves log settled pending i t answer = reading log tripleLength answer (byTermLeaves (byTerm (logFrom log) settled pending i t) answer)
+findConflictByTermLeaves log settled pending i t answer = reading log logLength tripleLength answer (byTermLeaves (byTerm (logFrom log) settled pending i t) answer)
 
 -- THE PROMISE of `log_slice`.
 abbrev pub sliceLeaves : List ℕ → List ℕ → List ℕ → ℕ → ℕ → List ℕ → Outcome
-sliceLeaves log settled pending low high answer = reading log partLength answer (boundsLeaves (sliceBounds (logFrom log) settled pending low high) (logFrom log) answer)
+sliceLeaves log settled pending low high answer = reading log logLength partLength answer (boundsLeaves (sliceBounds (logFrom log) settled pending low high) (logFrom log) answer)
 
 -- THE PROMISE of `log_entries`.
 abbrev pub entriesLeaves : List ℕ → List ℕ → List ℕ → ℕ → List ℕ → Outcome
-entriesLeaves log settled pending i answer = reading log partLength answer (boundsLeaves (entriesBounds (logFrom log) settled pending i) (logFrom log) answer)
+entriesLeaves log settled pending i answer = reading log logLength partLength answer (boundsLeaves (entriesBounds (logFrom log) settled pending i) (logFrom log) answer)
 
 -- THE PROMISE of `log_next_entries_since`.
 abbrev pub nextEntriesSinceLeaves : List ℕ → List ℕ → List ℕ → ℕ → List ℕ → Outcome
-nextEntriesSinceLeaves log settled pending s answer = reading log partLength answer (boundsLeaves (nextBounds (logFrom log) settled pending s) (logFrom log) answer)
+nextEntriesSinceLeaves log settled pending s answer = reading log logLength partLength answer (boundsLeaves (nextBounds (logFrom log) settled pending s) (logFrom log) answer)
 
 -- THE PROMISE of `log_has_next_entries_since`.
 abbrev pub hasNextEntriesSinceLeaves : List ℕ → List ℕ → List ℕ → ℕ → List ℕ → Outcome
-hasNextEntriesSinceLeaves log settled pending s answer = reading log singleLength answer (toldLeaves (hasNextSince (logFrom log) settled pending s) answer)
+hasNextEntriesSinceLeaves log settled pending s answer = reading log logLength singleLength answer (toldLeaves (hasNextSince (logFrom log) settled pending s) answer)
 
 -- The store that a number names.
 abbrev pub storeAt : ℕ → List ℕ → List ℕ → List ℕ

@@ -15,7 +15,7 @@ use Rattle.inflights.specs.declared.Fullness.{Fullness}
 use Rattle.inflights.specs.declared.Fullness.the-variants as fullness-is
 use Rattle.inflights.specs.declared.Counted.{Counted}
 use Rattle.inflights.specs.declared.Counted.the-variants as count-is
-use Rattle.exports.specs.Words.{singleLength, windowLength, flagWord, put, Outcome, leaves, withStore, unlessShort}
+use Rattle.exports.specs.Words.{singleLength, windowLength, flagWord, put, Outcome, leaves, withStore, unlessShort, reading}
 
 -- ---- The window's words
 
@@ -100,16 +100,10 @@ addLeaves window ring inflight =
     unlessShort window windowLength (ring ∷ window ∷ [])
     (withStore (ringAfter (windowFrom window) ring inflight) (windowLeaves (added (windowFrom window) (length ring)) window))
 
--- Of `answer`, by the two calls that only read.
-abbrev pub reads : List ℕ → List ℕ → Outcome → Outcome
-reads window answer out =
-    unlessShort window windowLength (answer ∷ [])
-    (unlessShort answer singleLength (answer ∷ []) out)
-
 -- `inflights_full`.
 abbrev pub fullLeaves : List ℕ → List ℕ → List ℕ → Outcome
-fullLeaves window ring answer = reads window answer (fullnessLeaves (fullness (windowFrom window) (length ring)) answer)
+fullLeaves window ring answer = reading window windowLength singleLength answer (fullnessLeaves (fullness (windowFrom window) (length ring)) answer)
 
 -- `inflights_count`.
 abbrev pub countLeaves : List ℕ → List ℕ → List ℕ → Outcome
-countLeaves window ring answer = reads window answer (countedLeaves (counted (windowFrom window) (length ring)) answer)
+countLeaves window ring answer = reading window windowLength singleLength answer (countedLeaves (counted (windowFrom window) (length ring)) answer)

@@ -79,3 +79,7 @@ withStore store out = leaves (out .result) (store ∷ out .slices)
 -- 01, refusal 1: "state rules or store lengths broken". So is a slice that is shorter than the words that it is for; all slices are then as they were.
 unfoldable pub unlessShort : List ℕ → ℕ → List (List ℕ) → Outcome → Outcome
 unlessShort slice words slices out = cond (ltb (length slice) words) (leaves brokenState slices) out
+
+-- What a call that only reads leaves of its answer, where its slices are long enough for the state's words and for the answer's.
+abbrev pub reading : List ℕ → ℕ → ℕ → List ℕ → Outcome → Outcome
+reading state stateWords words answer out = unlessShort state stateWords (answer ∷ []) (unlessShort answer words (answer ∷ []) out)

@@ -8,6 +8,7 @@ use borrow.Author.Tests.{not-true, ltb-true, leb-true, eqb-true, eqb-false, lt-l
 use Rattle.units.specs.Refusals.{fineOr, bothChecks}
 use Rattle.units.specs.declared.Check.{Check}
 use Rattle.units.specs.declared.Check.the-variants.{Fine, Refused}
+use Rattle.units.proofs.Never.{never}
 use Rattle.inflights.specs.State.{startFits, deferredFits, sound, windowCheck, capCheck, isFull, reached, roomCheck, Waits, Sound}
 use Rattle.inflights.specs.Calls.{addCheck, setCapCheck}
 use Rattle.inflights.specs.declared.Deferred.{Deferred}
@@ -78,7 +79,7 @@ unfolding roomCheck
 not-full w e = not-true (isFull w) (holds (not (isFull w)) _ e)
 
 below-by : (a b : ℕ) (t u : Bool) → eqb a b ≡ t → (t || u) ≡ false → a ≤ b → a < b
-below-by a b true u e h l = let z : _≡_ {A = Bool} true false = h in absurd (let y : _≡_ {A = ℕ} 0 1 = cc in omega arith)
+below-by a b true u e h l = let z : _≡_ {A = Bool} true false = h in never cc
 below-by a b false u e h l = let z : a ≡ b → ⊥ = eqb-false a b e in omega (arith, z)
 
 pub room-below : (w : Inflights) → roomCheck w ≡ Fine → w .count ≤ w .cap → w .count < w .cap

@@ -1,14 +1,13 @@
 -- How many flights in front are at most `to`, found by a walk: what holds after i of them, from the start to each end.
 use Prim.Native.Nat.{ℕ, zero, suc, _+_, _≤_, _<_}
 use mathlib.Core.Path.{_≡_, refl, sym, ap, _∙_, subst}
-use mathlib.Core.Bool.{Bool, true, false}
+use mathlib.Core.Bool.{Bool, true, false, cond}
 use mathlib.Core.List.{List}
 use native.Mathlib.Omega.{arith}
 use borrow.Author.Count.{below-more}
 use borrow.Author.Tests.{le-leb, lt-leb}
 use lib.Dec.{leb}
 use lib.ListN.{length, getD}
-use Rattle.inflights.specs.State.{if_then_else_}
 use Rattle.inflights.specs.Ring.{placeOf, values, flightAt, flightsFrom, leading, InRing}
 use Rattle.inflights.proofs.Places.{place-in, place-zero, place-place}
 
@@ -21,7 +20,7 @@ stops-at to (suc c) f (suc i) h l r =
     let a : leb (f 0) to ≡ true = le-leb (f 0) to (l 0 (omega arith)) in
     simp a (ap suc (stops-at to c (λ k. f (suc k)) i (omega arith) (λ k p. l (suc k) (omega arith)) (λ p. r (omega arith))))
 
-at-most-by : (b : Bool) (x c : ℕ) → x ≤ c → (if b then suc x else 0) ≤ suc c
+at-most-by : (b : Bool) (x c : ℕ) → x ≤ c → cond b (suc x) 0 ≤ suc c
 at-most-by true x c h = omega arith
 at-most-by false x c h = omega arith
 

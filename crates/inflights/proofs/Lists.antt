@@ -1,13 +1,12 @@
 -- Lists by their values, and what the longest front part of small flights is: `leading` finds it, and there is only one.
 use Prim.Native.Nat.{ℕ, zero, suc, _+_, _-_, _≤_, _<_}
 use mathlib.Core.Path.{_≡_, refl, sym, ap, _∙_, subst}
-use mathlib.Core.Bool.{Bool, true, false}
+use mathlib.Core.Bool.{Bool, true, false, cond}
 use mathlib.Core.List.{List, [], _∷_, _++_}
 use native.Mathlib.Omega.{arith}
 use borrow.Author.Tests.{leb-true, leb-false}
 use lib.Dec.{leb}
 use lib.ListN.{length, take, drop, take-append-drop}
-use Rattle.inflights.specs.State.{if_then_else_}
 use Rattle.inflights.specs.Ring.{values, leading}
 use Rattle.inflights.specs.Queue.{AllAtMost, BeginsAbove, Frees}
 
@@ -34,7 +33,7 @@ values-drop (suc k) (suc c) f h =
     values-drop k c (λ j. f (suc j)) (omega arith) ∙ ap (λ (m : ℕ). values m (λ j. f (suc (k + j)))) (let e : c - k ≡ suc c - suc k = omega arith in e)
     ∙ values-same (suc c - suc k) (λ j. f (suc (k + j))) (λ j. f (suc k + j)) (λ j p. ap f (let e : suc (k + j) ≡ suc k + j = omega arith in e))
 
-small-at : (to x : ℕ) (xs : List ℕ) (b : Bool) → leb x to ≡ b → AllAtMost to (take (leading to xs) xs) → AllAtMost to (take (if b then suc (leading to xs) else 0) (x ∷ xs))
+small-at : (to x : ℕ) (xs : List ℕ) (b : Bool) → leb x to ≡ b → AllAtMost to (take (leading to xs) xs) → AllAtMost to (take (cond b (suc (leading to xs)) 0) (x ∷ xs))
 unfolding AllAtMost
 small-at to x xs true e h = (leb-true _ _ e, h)
 small-at to x xs false e h = tt
@@ -44,7 +43,7 @@ unfolding leading AllAtMost
 front-small to [] = tt
 front-small to (x ∷ xs) = small-at to x xs (leb x to) refl (front-small to xs)
 
-above-at : (to x : ℕ) (xs : List ℕ) (b : Bool) → leb x to ≡ b → BeginsAbove to (drop (leading to xs) xs) → BeginsAbove to (drop (if b then suc (leading to xs) else 0) (x ∷ xs))
+above-at : (to x : ℕ) (xs : List ℕ) (b : Bool) → leb x to ≡ b → BeginsAbove to (drop (leading to xs) xs) → BeginsAbove to (drop (cond b (suc (leading to xs)) 0) (x ∷ xs))
 unfolding BeginsAbove
 above-at to x xs true e h = h
 above-at to x xs false e h = leb-false _ _ e

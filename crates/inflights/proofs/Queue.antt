@@ -4,7 +4,7 @@
 --     full-means, not-full-means, count-means
 use Prim.Native.Nat.{ℕ, zero, suc, _+_, _-_, _≤_, _<_}
 use mathlib.Core.Path.{_≡_, refl, sym, ap, _∙_, subst}
-use mathlib.Core.Bool.{Bool, true, false, _||_}
+use mathlib.Core.Bool.{Bool, true, false, _||_, cond}
 use mathlib.Core.Logic.{_≢_, _⊎_, inl, inr}
 use mathlib.Core.List.{List, [], _∷_, _++_}
 use native.Mathlib.Omega.{arith}
@@ -15,7 +15,8 @@ use lib.ListN.{length, getD, set, drop, length-set}
 use lib.Seq.{getD-set-same, getD-set-other}
 use Rattle.units.specs.declared.Check.{Check}
 use Rattle.units.specs.declared.Check.the-variants as check
-use Rattle.inflights.specs.State.{if_then_else_, windowCheck, capCheck, isFull, reached, emptyOf, Sound}
+use Rattle.units.proofs.Never.{never}
+use Rattle.inflights.specs.State.{windowCheck, capCheck, isFull, reached, emptyOf, Sound}
 use Rattle.inflights.specs.Ring.{placeOf, values, flightAt, flightsFrom, flights, leading}
 use Rattle.inflights.specs.Calls.{windowUnless, fullUnless, countUnless, ringUnless, made, withCap, setCapCheck, capped, fullness, counted, addCheck, oneMore, added, ringAfter, takenUp, takeUp, behind, freeTo, freedTo, freedFirst, nextCap, cleared, fromZero, rewind, rewound}
 use Rattle.inflights.specs.Queue.{Frees, Reached, IsFull}
@@ -36,7 +37,7 @@ use Rattle.inflights.proofs.Lists.{values-last, values-same, values-len
 -- A call that answers a window has passed its check, and what then holds of the new window holds of the answer's.
 pub of-answer : (P : Inflights → Type 0) (c : Check) (u : Inflights) {v : Inflights} → (c ≡ check.Fine → P u) → windowUnless c u ≡ Now v → P v
 of-answer P check.Fine u h e = subst P (let z : u ≡ _ = cc in z) (h refl)
-of-answer P (check.Refused m) u {v} h e = let z : _≡_ {A = Answer} (Refused m) (Now v) = e in absurd (let y : _≡_ {A = ℕ} 0 1 = cc in omega arith)
+of-answer P (check.Refused m) u {v} h e = let z : _≡_ {A = Answer} (Refused m) (Now v) = e in never cc
 
 -- add
 module _ (w : Inflights) (ring : List ℕ) (f : ℕ) where
@@ -58,7 +59,7 @@ module _ (w : Inflights) (ring : List ℕ) (f : ℕ) where
 
   last-by : (c : Check) → addCheck w (length ring) ≡ c → c ≡ check.Fine → flightsFrom (w .start) (w .count + 1) (ringUnless c ring (set ring at f)) ≡ flights w ring ++ (f ∷ [])
   last-by check.Fine e g = let m = may-add w (length ring) e in written (m .0) (m .1)
-  last-by (check.Refused m) e g = let z : _≡_ {A = Check} (check.Refused m) check.Fine = g in absurd (let y : _≡_ {A = ℕ} 0 1 = cc in omega arith)
+  last-by (check.Refused m) e g = let z : _≡_ {A = Check} (check.Refused m) check.Fine = g in never cc
 
   pub add-puts-last : {v : Inflights} → added w (length ring) ≡ Now v → flights v (ringAfter w ring f) ≡ flights w ring ++ (f ∷ [])
   unfolding added ringAfter
@@ -91,7 +92,7 @@ still-none : (ring : List ℕ) (u v : Inflights) → u .count ≡ 0 → v .count
 still-none ring u v e d = no-flights (v .start) (v .count) ring d ∙ sym (no-flights (u .start) (u .count) ring e)
 
 -- a window that changes only where its queue is empty
-if-none : (ring : List ℕ) (u v : Inflights) (b : Bool) → eqb (u .count) 0 ≡ b → (u .count ≡ 0 → flights v ring ≡ flights u ring) → flights (if b then v else u) ring ≡ flights u ring
+if-none : (ring : List ℕ) (u v : Inflights) (b : Bool) → eqb (u .count) 0 ≡ b → (u .count ≡ 0 → flights v ring ≡ flights u ring) → flights (cond b v u) ring ≡ flights u ring
 if-none ring u v true e h = h (eqb-true _ _ e)
 if-none ring u v false e h = refl
 
@@ -125,7 +126,7 @@ free-first-frees w ring e = free-to-frees w ring (getD (flights w ring) 0 0) e
 
 -- the others
 cap-by : (w : Inflights) (ring : List ℕ) (cap : ℕ) (b c : Bool) → eqb (w .count) 0 ≡ c
-    → flights (if b then record { start = w .start; count = w .count; cap = cap; deferred = Nothing } else (if c then emptyOf cap else record { start = w .start; count = w .count; cap = w .cap; deferred = Cap cap })) ring ≡ flights w ring
+    → flights (cond b (record { start = w .start; count = w .count; cap = cap; deferred = Nothing }) (cond c (emptyOf cap) (record { start = w .start; count = w .count; cap = w .cap; deferred = Cap cap }))) ring ≡ flights w ring
 cap-by w ring cap true c e = refl
 cap-by w ring cap false true e = still-none ring w (emptyOf cap) (eqb-true _ _ e) refl
 cap-by w ring cap false false e = refl
@@ -154,10 +155,10 @@ flights-length w ring = values-length (w .count) (flightAt (w .start) ring)
 full-by : (w : Inflights) (n : ℕ) (d : Deferred) (b : Bool) → eqb n (w .cap) ≡ b → (b || reached d n) ≡ true → (n ≡ w .cap) ⊎ Reached d n
 full-by w n d true e h = inl (eqb-true _ _ e)
 full-by w n (Cap c) false e h = inr (leb-true _ _ h)
-full-by w n Nothing false e h = let z : _≡_ {A = Bool} false true = h in absurd (let y : _≡_ {A = ℕ} 0 1 = cc in omega arith)
+full-by w n Nothing false e h = let z : _≡_ {A = Bool} false true = h in never cc
 
 not-by : (w : Inflights) (n : ℕ) (d : Deferred) (b : Bool) → eqb n (w .cap) ≡ b → (b || reached d n) ≡ false → (n ≡ w .cap) ⊎ Reached d n → ⊥
-not-by w n d true e h a = let z : _≡_ {A = Bool} true false = h in let y : _≡_ {A = ℕ} 0 1 = cc in omega arith
+not-by w n d true e h a = let z : _≡_ {A = Bool} true false = h in never cc
 not-by w n d false e h (inl a) = eqb-false _ _ e a
 not-by w n (Cap c) false e h (inr a) = let z : n < c = leb-false _ _ h in omega arith
 not-by w n Nothing false e h (inr a) = a

@@ -1,7 +1,7 @@
 -- A call that answers a window answers one that passes the check (`..-stays`), and no later call on that ring refuses such a window with 13 (`never-broken`).
 use Prim.Native.Nat.{ℕ, zero, suc, _+_, _-_, _≤_, _<_, max}
 use mathlib.Core.Path.{_≡_, refl, sym, subst, _∙_}
-use mathlib.Core.Bool.{Bool, true, false, not}
+use mathlib.Core.Bool.{Bool, true, false, not, cond}
 use mathlib.Core.Logic.{_≢_}
 use mathlib.Core.List.{List}
 use native.Mathlib.Omega.{arith}
@@ -11,7 +11,8 @@ use lib.ListN.{length, getD}
 use Rattle.units.specs.Refusals.{fineOr, noRoom, windowFull, brokenWindow, bothChecks}
 use Rattle.units.specs.declared.Check.{Check}
 use Rattle.units.specs.declared.Check.the-variants.{Fine, Refused}
-use Rattle.inflights.specs.State.{if_then_else_, windowCheck, capCheck, isFull, roomCheck, emptyOf, Waits, Sound}
+use Rattle.units.proofs.Never.{never}
+use Rattle.inflights.specs.State.{windowCheck, capCheck, isFull, roomCheck, emptyOf, Waits, Sound}
 use Rattle.inflights.specs.Ring.{placeOf, flights, leading}
 use Rattle.inflights.specs.Calls.{windowUnless, made, withCap, setCapCheck, capped, addCheck, oneMore, added, ringAfter, takenUp, takeUp, freeTo, freedTo, freedFirst, capOnEmpty, nextCap, cleared, fromZero, rewind, rewound, fullUnless, countUnless, fullness, counted}
 use Rattle.inflights.specs.Queue.{NeverBroken}
@@ -31,28 +32,28 @@ use Rattle.inflights.proofs.Queue.{of-answer, add-keeps-length}
 
 -- A window that passes the check is never refused with 13: each call begins with that check, and its other refusals have other numbers.
 window-not : (c : Check) (u : Inflights) → c ≢ Refused brokenWindow → windowUnless c u ≢ answer.Refused brokenWindow
-window-not Fine u h e = let z : _≡_ {A = Answer} (answer.Now u) (answer.Refused brokenWindow) = e in let y : _≡_ {A = ℕ} 0 1 = cc in omega arith
+window-not Fine u h e = let z : _≡_ {A = Answer} (answer.Now u) (answer.Refused brokenWindow) = e in never cc
 window-not (Refused m) u h e = h (let z : _≡_ {A = Answer} (answer.Refused m) (answer.Refused brokenWindow) = e in cc)
 
 full-not : (c : Check) (b : Bool) → c ≢ Refused brokenWindow → fullUnless c b ≢ full-is.Refused brokenWindow
-full-not Fine true h e = let z : _≡_ {A = Fullness} full-is.Full (full-is.Refused brokenWindow) = e in let y : _≡_ {A = ℕ} 0 1 = cc in omega arith
-full-not Fine false h e = let z : _≡_ {A = Fullness} full-is.NotFull (full-is.Refused brokenWindow) = e in let y : _≡_ {A = ℕ} 0 1 = cc in omega arith
+full-not Fine true h e = let z : _≡_ {A = Fullness} full-is.Full (full-is.Refused brokenWindow) = e in never cc
+full-not Fine false h e = let z : _≡_ {A = Fullness} full-is.NotFull (full-is.Refused brokenWindow) = e in never cc
 full-not (Refused m) b h e = h (let z : _≡_ {A = Fullness} (full-is.Refused m) (full-is.Refused brokenWindow) = e in cc)
 
 count-not : (c : Check) (n : ℕ) → c ≢ Refused brokenWindow → countUnless c n ≢ count-is.Refused brokenWindow
-count-not Fine n h e = let z : _≡_ {A = Counted} (count-is.Is n) (count-is.Refused brokenWindow) = e in let y : _≡_ {A = ℕ} 0 1 = cc in omega arith
+count-not Fine n h e = let z : _≡_ {A = Counted} (count-is.Is n) (count-is.Refused brokenWindow) = e in never cc
 count-not (Refused m) n h e = h (let z : _≡_ {A = Counted} (count-is.Refused m) (count-is.Refused brokenWindow) = e in cc)
 
 other : (b : Bool) (m : ℕ) → m ≢ brokenWindow → fineOr b m ≢ Refused brokenWindow
-other true m h e = let z : _≡_ {A = Check} Fine (Refused brokenWindow) = e in let y : _≡_ {A = ℕ} 0 1 = cc in omega arith
+other true m h e = let z : _≡_ {A = Check} Fine (Refused brokenWindow) = e in never cc
 other false m h e = h (let z : _≡_ {A = Check} (Refused m) (Refused brokenWindow) = e in cc)
 
 fine-not : (c : Check) → c ≡ Fine → c ≢ Refused brokenWindow
-fine-not c f e = let z : _≡_ {A = Check} Fine (Refused brokenWindow) = sym f ∙ e in let y : _≡_ {A = ℕ} 0 1 = cc in omega arith
+fine-not c f e = let z : _≡_ {A = Check} Fine (Refused brokenWindow) = sym f ∙ e in never cc
 
 next-not : (c d : Check) → c ≡ Fine → d ≢ Refused brokenWindow → bothChecks c d ≢ Refused brokenWindow
 next-not Fine d f h = h
-next-not (Refused m) d f h = absurd (let z : _≡_ {A = Check} (Refused m) Fine = f in let y : _≡_ {A = ℕ} 0 1 = cc in omega arith)
+next-not (Refused m) d f h = absurd (let z : _≡_ {A = Check} (Refused m) Fine = f in never cc)
 
 pub never-broken : (w : Inflights) (ring : List ℕ) → windowCheck w (length ring) ≡ Fine → NeverBroken w ring
 unfolding fullness counted capped setCapCheck capCheck added addCheck roomCheck freedTo freedFirst cleared rewound
@@ -83,7 +84,7 @@ empty-sound cap n h = record { count-cap = omega arith; cap-ring = h; start-ring
 
 -- A window that has lost flights, or all, and takes up the cap that waited.
 taken-by : (s c cap n c₀ : ℕ) (d : Deferred) (b : Bool) → eqb c 0 ≡ b → c ≤ cap → cap ≤ n → s < max n 1 → Waits d c₀ cap
-    → Sound (if b then takenUp (record { start = s; count = c; cap = cap; deferred = d }) d else record { start = s; count = c; cap = cap; deferred = d }) n
+    → Sound (cond b (takenUp (record { start = s; count = c; cap = cap; deferred = d }) d) (record { start = s; count = c; cap = cap; deferred = d })) n
 taken-by s c cap n c₀ Nothing true e h i j w = record { count-cap = h; cap-ring = i; start-ring = j; waits = tt }
 taken-by s c cap n c₀ (Cap m) true e h i j w = empty-sound m n (omega (arith, w .0))
 taken-by s c cap n c₀ d false e h i j w = let z : c ≡ 0 → ⊥ = eqb-false _ _ e in record { count-cap = h; cap-ring = i; start-ring = j; waits = still-waits d c₀ c cap w (omega (arith, z)) }
@@ -102,7 +103,7 @@ free-sound w ring to s =
     (omega (arith, s .count-cap)) (s .cap-ring) (place-max (w .start) (leading to (flights w ring)) (length ring) (s .start-ring) (omega (arith, s .count-cap, s .cap-ring))) (s .waits)
 
 cap-by : (w : Inflights) (n cap : ℕ) (b c : Bool) → leb (w .cap) cap ≡ b → eqb (w .count) 0 ≡ c → Sound w n → cap ≤ n
-    → Sound (if b then record { start = w .start; count = w .count; cap = cap; deferred = Nothing } else (if c then emptyOf cap else record { start = w .start; count = w .count; cap = w .cap; deferred = Cap cap })) n
+    → Sound (cond b (record { start = w .start; count = w .count; cap = cap; deferred = Nothing }) (cond c (emptyOf cap) (record { start = w .start; count = w .count; cap = w .cap; deferred = Cap cap }))) n
 cap-by w n cap true c p q s l = let z : w .cap ≤ cap = leb-true _ _ p in record { count-cap = omega (arith, s .count-cap); cap-ring = l; start-ring = s .start-ring; waits = tt }
 cap-by w n cap false true p q s l = empty-sound cap n l
 cap-by w n cap false false p q s l = let z : w .count ≡ 0 → ⊥ = eqb-false _ _ q in record { count-cap = s .count-cap; cap-ring = s .cap-ring; start-ring = s .start-ring; waits = (leb-false _ _ p, omega (arith, z)) }
@@ -111,7 +112,7 @@ next-fits : (d : Deferred) (count cap n : ℕ) → Waits d count cap → cap ≤
 next-fits Nothing count cap n w h = h
 next-fits (Cap c) count cap n w h = omega (arith, w .0)
 
-rewind-by : (w : Inflights) (n : ℕ) (b : Bool) → Sound w n → Sound (if b then fromZero w else w) n
+rewind-by : (w : Inflights) (n : ℕ) (b : Bool) → Sound w n → Sound (cond b (fromZero w) w) n
 rewind-by w n true s = record { count-cap = s .count-cap; cap-ring = s .cap-ring; start-ring = omega arith; waits = s .waits }
 rewind-by w n false s = s
 

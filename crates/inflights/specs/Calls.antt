@@ -1,13 +1,13 @@
 -- THE PROMISES: what each call answers. A reader must know: an answer is the first refusal of the call's checks, in order (13 before 7 and 11), else the new window; `ringAfter` is the ring that `add` leaves, and no other call can write it.
 use Prim.Native.Nat.{ℕ, _+_, _-_}
-use mathlib.Core.Bool.{Bool, true, false}
+use mathlib.Core.Bool.{Bool, true, false, cond}
 use mathlib.Core.List.{List}
 use lib.ListN.{length, getD, set}
 use lib.Dec.{leb, eqb}
 use Rattle.units.specs.Refusals.{bothChecks}
 use Rattle.units.specs.declared.Check.{Check}
 use Rattle.units.specs.declared.Check.the-variants as check
-use Rattle.inflights.specs.State.{if_then_else_, windowCheck, capCheck, roomCheck, isFull, emptyOf}
+use Rattle.inflights.specs.State.{windowCheck, capCheck, roomCheck, isFull, emptyOf}
 use Rattle.inflights.specs.Ring.{placeOf, flights, leading}
 use Rattle.inflights.specs.declared.Deferred.{Deferred}
 use Rattle.inflights.specs.declared.Deferred.the-variants.{Nothing, Cap}
@@ -47,9 +47,9 @@ made cap n = windowUnless (capCheck cap n) (emptyOf cap)
 -- `set_cap`: "equal to the current cap cancels a deferred change; larger takes effect and cancels it; smaller takes effect if the queue is empty, else is deferred until it empties." Start becomes 0 "when `set_cap` shrinks an empty queue".
 unfoldable pub withCap : Inflights → ℕ → Inflights
 withCap w cap =
-    if leb (w .cap) cap then record { start = w .start; count = w .count; cap = cap; deferred = Nothing }
-    else (if eqb (w .count) 0 then emptyOf cap
-    else record { start = w .start; count = w .count; cap = w .cap; deferred = Cap cap })
+    cond (leb (w .cap) cap) (record { start = w .start; count = w .count; cap = cap; deferred = Nothing })
+    (cond (eqb (w .count) 0) (emptyOf cap)
+    (record { start = w .start; count = w .count; cap = w .cap; deferred = Cap cap }))
 
 -- The checks of `set_cap`: 13 before 7.
 unfoldable pub setCapCheck : Inflights → ℕ → ℕ → Check
@@ -90,7 +90,7 @@ takenUp w (Cap c) = emptyOf c
 
 -- "Emptying takes up a deferred cap."
 unfoldable pub takeUp : Inflights → Inflights
-takeUp w = if eqb (w .count) 0 then takenUp w (w .deferred) else w
+takeUp w = cond (eqb (w .count) 0) (takenUp w (w .deferred)) w
 
 -- The window without its first k flights. What stands behind them stays where it is.
 abbrev pub behind : Inflights → ℕ → ℕ → Inflights
@@ -127,7 +127,7 @@ fromZero w = record { start = 0; count = w .count; cap = w .cap; deferred = w .d
 
 -- Start becomes 0 "on `maybe_free_buffer` of an empty queue".
 unfoldable pub rewind : Inflights → Inflights
-rewind w = if eqb (w .count) 0 then fromZero w else w
+rewind w = cond (eqb (w .count) 0) (fromZero w) w
 
 -- THE PROMISE of `maybe_free_buffer`.
 unfoldable pub rewound : Inflights → ℕ → Answer

@@ -1,9 +1,9 @@
 -- The ring and the flights in it. A reader must know: the queue of a window and its ring is the list `flights`, its first flight first.
+use mathlib.Core.Bool.{cond}
 use Prim.Native.Nat.{ℕ, zero, suc, _+_, _≤_, _<_, _%_, max}
 use mathlib.Core.List.{List, [], _∷_}
 use lib.ListN.{length, getD}
 use lib.Dec.{leb}
-use Rattle.inflights.specs.State.{if_then_else_}
 use Rattle.inflights.specs.declared.Inflights.{Inflights}
 
 -- 01, "What must change shape": "The ring is used modulo its own length". The place i behind the start, in a ring of n words. (In an empty ring start and i are 0, and so is the place.)
@@ -30,7 +30,7 @@ flights w ring = flightsFrom (w .start) (w .count) ring
 -- How many in front are at most `to`: "from the front while the flight is at most `to`, stopping at the first larger one".
 unfoldable pub leading : ℕ → List ℕ → ℕ
 leading to [] = 0
-leading to (x ∷ xs) = if leb x to then suc (leading to xs) else 0
+leading to (x ∷ xs) = cond (leb x to) (suc (leading to xs)) 0
 
 -- A start and a number of flights behind it that a ring of n words has.
 pub record InRing (start i n : ℕ) : Type 0 where

@@ -8,12 +8,6 @@ use Rattle.inflights.specs.declared.Deferred.{Deferred}
 use Rattle.inflights.specs.declared.Deferred.the-variants.{Nothing, Cap}
 use Rattle.inflights.specs.declared.Inflights.{Inflights}
 
--- A choice by a test, read as it is written.
-infixr 5 if_then_else_
-abbrev pub if_then_else_ : {A : Type 0} → Bool → A → A → A
-if true then a else b = a
-if false then a else b = b
-
 -- 01, refusal 13: "a start outside the ring"; "An empty ring has start 0." So a start of 0 fits every ring.
 unfoldable pub startFits : ℕ → ℕ → Bool
 startFits start n = eqb start 0 || ltb start n

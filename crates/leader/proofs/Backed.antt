@@ -1,7 +1,7 @@
 -- What the leader's commit step amounts to: it commits only what the paper's rule allows, answers no only where the joint index is not such a one, and refuses exactly by 1, then 12.
 use Prim.Native.Nat.{ℕ, _≤_, _<_}
 use mathlib.Core.Path.{_≡_, refl, sym, ap, subst, _∙_}
-use mathlib.Core.Bool.{Bool, true, false}
+use mathlib.Core.Bool.{Bool, true, false, cond}
 use mathlib.Core.List.{List}
 use mathlib.Core.Logic.{_⊎_, inl, inr, ⊎-map}
 use native.Mathlib.Omega.{arith}
@@ -10,6 +10,7 @@ use Rattle.units.specs.Units.{wordMax}
 use Rattle.units.specs.Refusals.{brokenState, brokenSet, bothChecks}
 use Rattle.units.specs.declared.Check.{Check}
 use Rattle.units.specs.declared.Check.the-variants as check
+use Rattle.units.proofs.Never.{never}
 use Rattle.quorum.specs.Rows.{rowsCheck}
 use Rattle.quorum.specs.Half.{halfIndex, joined}
 use Rattle.quorum.specs.Majority.{indexUnless, acksOf}
@@ -23,7 +24,7 @@ use Rattle.quorum_laws.proofs.Joint.{backs-up-to-index}
 use Rattle.quorum_laws.proofs.Answers.{JointWhole, joint-index-refused}
 use Rattle.raft_log.specs.State.{Good, lastOf, broken, termAt}
 use Rattle.raft_log.specs.Append.{withCommitted}
-use Rattle.raft_log.specs.Commit.{decideUnless, yesIf, mayCommit, maybeCommit}
+use Rattle.raft_log.specs.Commit.{mayCommit, maybeCommit}
 use Rattle.raft_log.specs.declared.Log.{Log}
 use Rattle.raft_log.specs.declared.Decided.{Decided}
 use Rattle.raft_log.specs.declared.Decided.the-variants as decided
@@ -33,7 +34,7 @@ use Rattle.leader.specs.Rule.{MayCommit}
 
 module _ (l : Log) (settled pending : List ℕ) (term : ℕ) where
   -- the log's own step says yes
-  says-yes : (b c : Bool) (n : ℕ) (after : Log) → decideUnless b (yesIf c (withCommitted l n)) ≡ decided.Yes after → (b ≡ false) × ((c ≡ true) × (withCommitted l n ≡ after))
+  says-yes : (b c : Bool) (n : ℕ) (after : Log) → cond b (decided.Refused brokenState) (cond c (decided.Yes (withCommitted l n)) decided.No) ≡ decided.Yes after → (b ≡ false) × ((c ≡ true) × (withCommitted l n ≡ after))
   says-yes true c n after e = (cc, (cc, cc))
   says-yes false true n after e = (refl, (refl, cc))
   says-yes false false n after e = (refl, (cc, cc))
@@ -60,26 +61,18 @@ module _ (l : Log) (settled pending : List ℕ) (term : ℕ) where
       }
 
 -- a refusal of the quorum's is handed on
-never-yes : (b : Bool) (m : ℕ) (after : Log) → decideUnless b (decided.Refused m) ≡ decided.Yes after → ⊥
-never-yes true m after e =
-    let z : _≡_ {A = ℕ} 0 1 = cc in
-    omega arith
-never-yes false m after e =
-    let z : _≡_ {A = ℕ} 0 1 = cc in
-    omega arith
+never-yes : (b : Bool) (m : ℕ) (after : Log) → cond b (decided.Refused brokenState) (decided.Refused m) ≡ decided.Yes after → ⊥
+never-yes true m after e = never cc
+never-yes false m after e = never cc
 
 -- a refusal is the log's own, or the answer's
-by-state : (b : Bool) (a : Decided) (n : ℕ) → decideUnless b a ≡ decided.Refused n → ((b ≡ true) × (n ≡ brokenState)) ⊎ (a ≡ decided.Refused n)
+by-state : (b : Bool) (a : Decided) (n : ℕ) → cond b (decided.Refused brokenState) a ≡ decided.Refused n → ((b ≡ true) × (n ≡ brokenState)) ⊎ (a ≡ decided.Refused n)
 by-state true a n e = inl (refl, cc)
 by-state false a n e = inr e
 
-never-refused : (b : Bool) (l : Log) (n : ℕ) → yesIf b l ≡ decided.Refused n → ⊥
-never-refused true l n e =
-    let z : _≡_ {A = ℕ} 0 1 = cc in
-    omega arith
-never-refused false l n e =
-    let z : _≡_ {A = ℕ} 0 1 = cc in
-    omega arith
+never-refused : (b : Bool) (l : Log) (n : ℕ) → cond b (decided.Yes l) decided.No ≡ decided.Refused n → ⊥
+never-refused true l n e = never cc
+never-refused false l n e = never cc
 
 module _ (l : Log) (settled pending : List ℕ) (term : ℕ) (config : JointConfig) (peers : List Peer) where
   abbrev in-both : Half

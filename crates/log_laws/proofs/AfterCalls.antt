@@ -1,6 +1,6 @@
 -- What the other writing calls leave of the view: `stable_entries` nothing new, `append` the records before its first index and then the run's. (The calls that move one number leave it as it is: it does not read them.)
-use mathlib.Core.Path.{_≡_, refl, sym, ap, ap₂, subst, _∙_}
-use mathlib.Core.Bool.{Bool, true, false}
+use mathlib.Core.Path.{_≡_, sym, ap, ap₂, subst, _∙_}
+use mathlib.Core.Bool.{Bool, true, false, cond}
 use mathlib.Core.List.{List, _++_, append-nil}
 use Prim.Native.Nat.{ℕ, _+_, _-_, _*_, _≤_, _<_}
 use native.Mathlib.Omega.{arith}
@@ -10,22 +10,22 @@ use lib.ListN.{length, take}
 use lib.Seq.{paste}
 use Rattle.rules.specs.Log.{Entry}
 use Rattle.rules.specs.Receiver.{with-entries}
-use Rattle.units.specs.Refusals.{brokenState, misnumberedRun, zeroTerm, cutsCommitted, noRoom, outOfRange}
 use Rattle.units.specs.Units.{indexOf}
 use Rattle.units.specs.declared.Index.{Index}
+use Rattle.units.proofs.Cond.{past}
 use Rattle.raft_log.specs.declared.Log.{Log}
 use Rattle.raft_log.specs.declared.Changed.the-variants.{Now}
-use Rattle.raft_log.specs.declared.Extended.{Extended}
-use Rattle.raft_log.specs.declared.Extended.the-variants.{Last, Refused}
+use Rattle.raft_log.specs.declared.Extended.the-variants.{Last}
 use Rattle.raft_log.specs.Words.{recordWords, room, runCount, putRun}
 use Rattle.raft_log.specs.State.{Good, lastOf, broken}
 use Rattle.raft_log.specs.Run.{zeroTermIn}
-use Rattle.raft_log.specs.Append.{overfull, storeIf}
-use Rattle.raft_log.specs.Extend.{refuseIf, unlessEmpty, badRun, firstOf, extended, startsCommitted, leavesGap, startsPersisted, extendFrom, extendAnswer, extendStore}
+use Rattle.raft_log.specs.Append.{overfull}
+use Rattle.raft_log.specs.Extend.{badRun, firstOf, extended, startsCommitted, leavesGap, startsPersisted, extendFrom, extendAnswer, extendStore}
 use Rattle.raft_log.specs.Settle.{settledLog, settleAnswer, settleStore}
 use Rattle.log_laws.specs.View.{storeEntry, listed, records, runEntries, view-of}
 use Rattle.raft_log.proofs.States.{ok-good}
 use Rattle.raft_log.proofs.Settling.{settle-room, settle-log}
+use Rattle.raft_log.proofs.Extending.{no-last}
 use Rattle.log_laws.proofs.Views.{same-listed, append-listed, pasted-below, pasted-inside}
 use Rattle.log_laws.proofs.Cutting.{view-cut}
 
@@ -63,15 +63,6 @@ module _ (l : Log) (settled pending : List ℕ) where
 
 -- ---- `append`
 
-no-last : {r : ℕ} {i : Index} {a : Log} → Refused r ≡ Last i a → ⊥
-no-last h =
-    let z : _≡_ {A = ℕ} 0 1 = cc in
-    omega arith
-
-pub inverted : (b : Bool) (r : ℕ) (x : Extended) {i : Index} {a : Log} → refuseIf b r x ≡ Last i a → (b ≡ false) × (x ≡ Last i a)
-inverted true r x h = absurd (no-last h)
-inverted false r x h = (refl, h)
-
 module _ (l : Log) (settled pending run : List ℕ) where
   -- the view after the call, by whether the run is empty
   abbrev pub Extends : Bool → Log → List ℕ → Type 0
@@ -84,18 +75,18 @@ module _ (l : Log) (settled pending run : List ℕ) where
       → Extends false a (putRun pending (firstOf run - a .offset .0) run 0 (runCount run))
   unfolding extendFrom
   cut good i a h =
-      let b1 = inverted (startsCommitted l (firstOf run)) cutsCommitted _ h in
-      let b2 = inverted (leavesGap l (firstOf run)) outOfRange _ (b1 .1) in
-      let b3 = inverted (overfull (extended l (firstOf run) (runCount run)) pending) noRoom _ (b2 .1) in
-      let b4 = inverted (startsPersisted l (firstOf run)) outOfRange _ (b3 .1) in
+      let b1 = past (startsCommitted l (firstOf run)) no-last h in
+      let b2 = past (leavesGap l (firstOf run)) no-last (b1 .1) in
+      let b3 = past (overfull (extended l (firstOf run) (runCount run)) pending) no-last (b2 .1) in
+      let b4 = past (startsPersisted l (firstOf run)) no-last (b3 .1) in
       let same : extended l (firstOf run) (runCount run) ≡ a = (cc (b4 .1)) in
       let above : l .committed .0 < firstOf run = leb-false _ _ (b1 .0) in
       subst (λ (x : Log). Extends false x (putRun pending (firstOf run - x .offset .0) run 0 (runCount run))) same
       (view-cut l settled pending good (firstOf run) (omega (arith, good .start≤committed)) (ltb-false _ _ (b2 .0)) run 0 (runCount run) (firstOf run + runCount run - 1) (l .persisted .0) (omega arith) (ltb-false _ _ (b3 .0)))
 
   by-emptiness : Good l settled pending → (b : Bool) (i : Index) (a : Log)
-      → unlessEmpty b (Last (indexOf (lastOf l)) l) (extendFrom l pending (firstOf run) (runCount run)) ≡ Last i a
-      → Extends b a (storeIf b pending (putRun pending (firstOf run - a .offset .0) run 0 (runCount run)))
+      → cond b (Last (indexOf (lastOf l)) l) (extendFrom l pending (firstOf run) (runCount run)) ≡ Last i a
+      → Extends b a (cond b pending (putRun pending (firstOf run - a .offset .0) run 0 (runCount run)))
   by-emptiness good true i a h =
       let same : l ≡ a = (cc h) in
       ap (λ (x : Log). view-of x settled pending) (sym same)
@@ -106,7 +97,7 @@ module _ (l : Log) (settled pending run : List ℕ) where
       → Extends (eqb (length run) 0) a (extendStore (Last i a) pending run)
   unfolding extendAnswer extendStore
   extended-view i a h =
-      let b1 = inverted (broken l settled pending) brokenState _ h in
-      let b2 = inverted (badRun run) misnumberedRun _ (b1 .1) in
-      let b3 = inverted (zeroTermIn run) zeroTerm _ (b2 .1) in
+      let b1 = past (broken l settled pending) no-last h in
+      let b2 = past (badRun run) no-last (b1 .1) in
+      let b3 = past (zeroTermIn run) no-last (b2 .1) in
       by-emptiness (ok-good l settled pending (not-false _ (b1 .0))) (eqb (length run) 0) i a (b3 .1)

@@ -1,7 +1,7 @@
 -- The calls that move one number, and settling, decide by the view: on a good log each answers what its rule says of the list of records. (That they leave the list as it is stands in Unmoved.antt and AfterCalls.antt.)
 use Prim.Native.Nat.{ℕ, _-_, min}
 use mathlib.Core.Path.{_≡_, sym, ap, ap₂, _∙_}
-use mathlib.Core.Bool.{Bool, false, not, _&&_, _||_}
+use mathlib.Core.Bool.{Bool, false, not, _&&_, _||_, cond}
 use mathlib.Core.List.{List}
 use mathlib.Core.Logic.{⊎-elim}
 use native.Mathlib.Omega.{arith}
@@ -11,10 +11,11 @@ use Rattle.units.specs.Refusals.{noRoom, outOfRange, notPending}
 use Rattle.rules.specs.Log.{Log as Abstract, last, term-of}
 use Rattle.raft_log.specs.declared.Log.{Log}
 use Rattle.raft_log.specs.declared.Changed.the-variants as changed
+use Rattle.raft_log.specs.declared.Decided.the-variants as decided
 use Rattle.raft_log.specs.Words.{room, storeTerm}
 use Rattle.raft_log.specs.State.{Good, broken, lastOf, termAt}
 use Rattle.raft_log.specs.Append.{withCommitted}
-use Rattle.raft_log.specs.Commit.{refuseIf, changedIf, withApplied, withPersisted, yesIf, commitTo, appliedTo, maybeCommit, maybePersist}
+use Rattle.raft_log.specs.Commit.{withApplied, withPersisted, commitTo, appliedTo, maybeCommit, maybePersist}
 use Rattle.raft_log.specs.Settle.{settledLog, settleAnswer}
 use Rattle.raft_log.proofs.Searching.{below-or-not}
 use Rattle.raft_log.proofs.States.{good-ok, term-settled}
@@ -35,20 +36,20 @@ module _ (l : Log) (settled pending : List ℕ) (good : Good l settled pending) 
   same-term i = sym (view-term l settled pending good i)
 
   -- "nothing if i <= committed, else committed is i"; 8 above last
-  pub commit-to-rule : (i : ℕ) → commitTo l settled pending i ≡ changedIf (leb i (l .committed .0)) (changed.Now l) (refuseIf (ltb (last view) i) outOfRange (changed.Now (withCommitted l i)))
+  pub commit-to-rule : (i : ℕ) → commitTo l settled pending i ≡ cond (leb i (l .committed .0)) (changed.Now l) (cond (ltb (last view) i) (changed.Refused outOfRange) (changed.Now (withCommitted l i)))
   unfolding commitTo
-  commit-to-rule i = simp fine (ap (λ (n : ℕ). changedIf (leb i (l .committed .0)) (changed.Now l) (refuseIf (ltb n i) outOfRange (changed.Now (withCommitted l i)))) ends)
+  commit-to-rule i = simp fine (ap (λ (n : ℕ). cond (leb i (l .committed .0)) (changed.Now l) (cond (ltb n i) (changed.Refused outOfRange) (changed.Now (withCommitted l i)))) ends)
 
   -- "`applied_to(0)` does nothing; `applied_to(i)` makes applied i"; 8 above min(committed, persisted) or below applied: it reads no record
   pub applied-to-rule : (i : ℕ) → appliedTo l settled pending i
-      ≡ changedIf (eqb i 0) (changed.Now l) (refuseIf (ltb (min (l .committed .0) (l .persisted .0)) i || ltb i (l .applied .0)) outOfRange (changed.Now (withApplied l i)))
+      ≡ cond (eqb i 0) (changed.Now l) (cond (ltb (min (l .committed .0) (l .persisted .0)) i || ltb i (l .applied .0)) (changed.Refused outOfRange) (changed.Now (withApplied l i)))
   unfolding appliedTo
   applied-to-rule i = simp fine
 
   -- "yes exactly if committed < i <= last and term(i) = t, then commits"
-  pub maybe-commit-rule : (i t : ℕ) → maybeCommit l settled pending i t ≡ yesIf (ltb (l .committed .0) i && leb i (last view) && eqb (term-of view i) t) (withCommitted l i)
+  pub maybe-commit-rule : (i t : ℕ) → maybeCommit l settled pending i t ≡ cond (ltb (l .committed .0) i && leb i (last view) && eqb (term-of view i) t) (decided.Yes (withCommitted l i)) decided.No
   unfolding maybeCommit
-  maybe-commit-rule i t = simp fine (ap₂ (λ (n x : ℕ). yesIf (ltb (l .committed .0) i && leb i n && eqb x t) (withCommitted l i)) ends (same-term i))
+  maybe-commit-rule i t = simp fine (ap₂ (λ (n x : ℕ). cond (ltb (l .committed .0) i && leb i n && eqb x t) (decided.Yes (withCommitted l i)) decided.No) ends (same-term i))
 
   -- "yes exactly if persisted < i < offset and the settled term at i is t": a settled record's term is the view's
   settled-term : (i t : ℕ) → (ltb (l .persisted .0) i && ltb i (l .offset .0) && eqb (storeTerm settled (i - l .start .0 - 1)) t) ≡ (ltb (l .persisted .0) i && ltb i (l .offset .0) && eqb (term-of view i) t)
@@ -61,15 +62,15 @@ module _ (l : Log) (settled pending : List ℕ) (good : Good l settled pending) 
       (λ not-above. simp (le-ltb (l .persisted .0) i not-above))
       (below-or-not (l .persisted .0) i)
 
-  pub maybe-persist-rule : (i t : ℕ) → maybePersist l settled pending i t ≡ yesIf (ltb (l .persisted .0) i && ltb i (l .offset .0) && eqb (term-of view i) t) (withPersisted l i)
+  pub maybe-persist-rule : (i t : ℕ) → maybePersist l settled pending i t ≡ cond (ltb (l .persisted .0) i && ltb i (l .offset .0) && eqb (term-of view i) t) (decided.Yes (withPersisted l i)) decided.No
   unfolding maybePersist
-  maybe-persist-rule i t = simp fine (ap (λ (b : Bool). yesIf b (withPersisted l i)) (settled-term i t))
+  maybe-persist-rule i t = simp fine (ap (λ (b : Bool). cond b (decided.Yes (withPersisted l i)) decided.No) (settled-term i t))
 
   -- "pending's last record must be (i, t)" (10); 7 where the settled store has no room for all records
   pub stable-entries-rule : (i t : ℕ) → settleAnswer l settled pending i t
-      ≡ refuseIf (ltb (room settled) (last view - view .start)) noRoom (refuseIf (not (not (eqb (l .count) 0) && eqb i (last view) && eqb (term-of view i) t)) notPending (changed.Now (settledLog l)))
+      ≡ cond (ltb (room settled) (last view - view .start)) (changed.Refused noRoom) (cond (not (not (eqb (l .count) 0) && eqb i (last view) && eqb (term-of view i) t)) (changed.Refused notPending) (changed.Now (settledLog l)))
   unfolding settleAnswer
   stable-entries-rule i t =
       simp fine
-      (ap₂ (λ (n k : ℕ). refuseIf (ltb (room settled) (n - k)) noRoom (refuseIf (not (not (eqb (l .count) 0) && eqb i n && eqb (termAt l settled pending i) t)) notPending (changed.Now (settledLog l)))) ends (sym (view-start l settled pending))
-      ∙ ap (λ (x : ℕ). refuseIf (ltb (room settled) (last view - view .start)) noRoom (refuseIf (not (not (eqb (l .count) 0) && eqb i (last view) && eqb x t)) notPending (changed.Now (settledLog l)))) (same-term i))
+      (ap₂ (λ (n k : ℕ). cond (ltb (room settled) (n - k)) (changed.Refused noRoom) (cond (not (not (eqb (l .count) 0) && eqb i n && eqb (termAt l settled pending i) t)) (changed.Refused notPending) (changed.Now (settledLog l)))) ends (sym (view-start l settled pending))
+      ∙ ap (λ (x : ℕ). cond (ltb (room settled) (last view - view .start)) (changed.Refused noRoom) (cond (not (not (eqb (l .count) 0) && eqb i (last view) && eqb x t)) (changed.Refused notPending) (changed.Now (settledLog l)))) (same-term i))

@@ -1,7 +1,7 @@
 -- Every word outside the records that a call adds or copies is as it was, and no store changes its length.
 use Prim.Native.Nat.{ℕ, _+_, _-_, _*_, _≤_}
 use mathlib.Core.Path.{_≡_, refl}
-use mathlib.Core.Bool.{Bool, true, false}
+use mathlib.Core.Bool.{Bool, true, false, cond}
 use mathlib.Core.List.{List}
 use mathlib.Core.Logic.{⊎-elim}
 use native.Mathlib.Omega.{arith}
@@ -16,7 +16,7 @@ use Rattle.raft_log.specs.declared.Extended.{Extended}
 use Rattle.raft_log.specs.declared.Extended.the-variants as extended
 use Rattle.raft_log.specs.declared.Changed.the-variants as changed
 use Rattle.raft_log.specs.Words.{recordWords, runCount, putRun}
-use Rattle.raft_log.specs.Append.{storeIf, appendStore}
+use Rattle.raft_log.specs.Append.{appendStore}
 use Rattle.raft_log.specs.Extend.{firstOf, extendStore}
 use Rattle.raft_log.specs.Settle.{settleAnswer, settleStore}
 use Rattle.raft_log.proofs.Settling.{settle-room}
@@ -24,11 +24,11 @@ use Rattle.log_laws.specs.Frame.{Elsewhere}
 use Rattle.log_laws.proofs.Views.{length-put, put-before, put-after, paste-before, paste-after}
 
 -- A run put into a store, or not.
-store-elsewhere : (b : Bool) (s : List ℕ) (at : ℕ) (run : List ℕ) (k n w : ℕ) → Elsewhere at n w → getD (storeIf b s (putRun s at run k n)) w 0 ≡ getD s w 0
+store-elsewhere : (b : Bool) (s : List ℕ) (at : ℕ) (run : List ℕ) (k n w : ℕ) → Elsewhere at n w → getD (cond b s (putRun s at run k n)) w 0 ≡ getD s w 0
 store-elsewhere true s at run k n w h = refl
 store-elsewhere false s at run k n w h = ⊎-elim (put-before s at run k n w) (put-after s at run k n w) h
 
-store-length : (b : Bool) (s : List ℕ) (at : ℕ) (run : List ℕ) (k n : ℕ) → length (storeIf b s (putRun s at run k n)) ≡ length s
+store-length : (b : Bool) (s : List ℕ) (at : ℕ) (run : List ℕ) (k n : ℕ) → length (cond b s (putRun s at run k n)) ≡ length s
 store-length true s at run k n = refl
 store-length false s at run k n = length-put s at run k n
 

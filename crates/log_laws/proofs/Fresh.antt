@@ -1,22 +1,16 @@
 -- Set-up stands for the records that its settled store holds, after the start that it was handed.
 use Prim.Native.Nat.{ℕ, _+_, _-_}
 use mathlib.Core.Path.{_≡_, sym, ap, _∙_}
-use mathlib.Core.Bool.{Bool, true, false, not}
+use mathlib.Core.Bool.{not}
 use mathlib.Core.List.{List, append-nil}
 use native.Mathlib.Omega.{arith}
-use Rattle.units.specs.Refusals.{brokenState, zeroTerm}
+use Rattle.units.proofs.Cond.{past}
 use Rattle.rules.specs.Log.{Entry, Log as Abstract}
 use Rattle.raft_log.specs.declared.Log.{Log}
-use Rattle.raft_log.specs.declared.Changed.{Changed}
 use Rattle.raft_log.specs.declared.Changed.the-variants as changed
-use Rattle.raft_log.specs.Commit.{refuseIf}
 use Rattle.raft_log.specs.Setup.{fresh, setupOk, settledZero, setupAnswer}
+use Rattle.raft_log.proofs.Settling.{no-now}
 use Rattle.log_laws.specs.View.{listed, records, view-of}
-
--- an answer that is no refusal is what stands behind the test
-behind : (b : Bool) (number : ℕ) (x : Changed) {a : Log} → refuseIf b number x ≡ changed.Now a → x ≡ changed.Now a
-behind true number x e = cc
-behind false number x e = e
 
 module _ (start startterm last : ℕ) (settled pending : List ℕ) where
   abbrev held : List Entry → Abstract
@@ -31,6 +25,6 @@ module _ (start startterm last : ℕ) (settled pending : List ℕ) where
   pub new-view : (a : Log) → setupAnswer start startterm last settled ≡ changed.Now a → view-of a settled pending ≡ held (records (last - start) settled)
   unfolding setupAnswer
   new-view a e =
-      let inner = behind (settledZero settled (last - start)) zeroTerm (changed.Now (fresh start startterm last)) (behind (not (setupOk start startterm last settled)) brokenState _ e) in
+      let inner = past (settledZero settled (last - start)) no-now (past (not (setupOk start startterm last settled)) no-now e .1) .1 in
       let same : fresh start startterm last ≡ a = cc in
       ap (λ (x : Log). view-of x settled pending) (sym same) ∙ fresh-view

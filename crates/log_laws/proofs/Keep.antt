@@ -1,6 +1,6 @@
 -- Each call keeps the state rules: an answer's tests, peeled off one by one, leave what the new log's rules ask.
 use mathlib.Core.Path.{_≡_, refl, ap, _∙_}
-use mathlib.Core.Bool.{Bool, true, false, not, _&&_, _||_}
+use mathlib.Core.Bool.{Bool, true, false, not, _&&_, _||_, cond}
 use mathlib.Core.Logic.{⊎-elim}
 use mathlib.Core.List.{List}
 use Prim.Native.Nat.{ℕ, zero, suc, _+_, _-_, _*_, _≤_, _<_, min, max}
@@ -10,22 +10,22 @@ use lib.ListN.{length}
 use lib.Seq.{length-sets, length-paste}
 use borrow.Author.Tests.{eq-eqb, ltb-true, ltb-false, leb-true, leb-false, eqb-true, eqb-false, not-false}
 use Rattle.units.specs.Units.{indexLimit}
-use Rattle.units.specs.Refusals.{brokenState, misnumberedRun, zeroTerm, outsideLog, mismatch, cutsCommitted, noRoom, outOfRange, notPending}
+use Rattle.units.specs.Refusals.{brokenState}
+use Rattle.units.proofs.Cond.{either-end}
 use Rattle.raft_log.specs.declared.Log.{Log}
 use Rattle.raft_log.specs.declared.Changed.{Changed}
-use Rattle.raft_log.specs.declared.Changed.the-variants as changed
 use Rattle.raft_log.specs.declared.Extended.{Extended}
-use Rattle.raft_log.specs.declared.Extended.the-variants as extended
 use Rattle.raft_log.specs.declared.Appended.{Appended}
-use Rattle.raft_log.specs.declared.Appended.the-variants as appended
+use Rattle.raft_log.specs.declared.Decided.{Decided}
+use Rattle.raft_log.specs.declared.Decided.the-variants as decided
 use Rattle.raft_log.specs.Words.{recordWords, room, runCount, runTerm, putRecord, recordOf, putRun, firstFrom}
 use Rattle.raft_log.specs.State.{Good, broken, lastOf, termAt}
 use Rattle.raft_log.specs.Run.{termsSet, misnumbered, zeroTermIn, zeroAt}
-use Rattle.raft_log.specs.Append.{differs, withPending, withCommitted, cutLog, cutIf, commitUp, afterMessage, outside, mismatched, cuts, overfull, decide, matchRun, appendAnswer, storeIf, appendStore}
+use Rattle.raft_log.specs.Append.{differs, withPending, withCommitted, cutLog, cutIf, commitUp, afterMessage, outside, mismatched, cuts, overfull, decide, matchRun, appendAnswer, appendStore}
 use Rattle.raft_log.specs.Append as append
-use Rattle.raft_log.specs.Extend.{firstOf, badRun, startsCommitted, leavesGap, startsPersisted, unlessEmpty, extendFrom, extendAnswer, extendStore}
+use Rattle.raft_log.specs.Extend.{firstOf, badRun, startsCommitted, leavesGap, startsPersisted, extendFrom, extendAnswer, extendStore}
 use Rattle.raft_log.specs.Extend as extend
-use Rattle.raft_log.specs.Commit.{refuseIf, changedIf, withApplied, decideUnless, yesIf, mayCommit, mayPersist, commitTo, appliedTo, maybeCommit, maybePersist}
+use Rattle.raft_log.specs.Commit.{withApplied, mayCommit, mayPersist, commitTo, appliedTo, maybeCommit, maybePersist}
 use Rattle.raft_log.specs.Settle.{settledOverfull, isLast, settleAnswer, settleStore}
 use Rattle.raft_log.specs.Setup.{setupOk, settledZero, setupAnswer}
 use Rattle.raft_log.proofs.States.{split, not-both, ok-good, term-beyond}
@@ -33,36 +33,11 @@ use Rattle.raft_log.proofs.Runs.{numbered-rises}
 use Rattle.raft_log.proofs.Searching.{found, below-or-not}
 use Rattle.log_laws.specs.Keep.{AfterChanged, AfterDecided, AfterExtended, AfterAppended}
 
--- ---- an answer's tests, one by one: what holds of every refusal and of what comes after the test holds of the whole
-
-module _ (P : Changed → Type 0) (refused : (n : ℕ) → P (changed.Refused n)) where
-  pub changed-past : (b : Bool) (n : ℕ) (x : Changed) → (b ≡ false → P x) → P (refuseIf b n x)
-  changed-past true n x f = refused n
-  changed-past false n x f = f refl
-
-changed-either : (P : Changed → Type 0) (b : Bool) (x y : Changed) → P x → (b ≡ false → P y) → P (changedIf b x y)
-changed-either P true x y p f = p
-changed-either P false x y p f = f refl
-
-module _ (P : Extended → Type 0) (refused : (n : ℕ) → P (extended.Refused n)) where
-  extended-past : (b : Bool) (n : ℕ) (x : Extended) → (b ≡ false → P x) → P (extend.refuseIf b n x)
-  extended-past true n x f = refused n
-  extended-past false n x f = f refl
-
-extended-unless : (P : Extended → Type 0) (b : Bool) (x y : Extended) → P x → (b ≡ false → P y) → P (unlessEmpty b x y)
-extended-unless P true x y p f = p
-extended-unless P false x y p f = f refl
-
-module _ (P : Appended → Type 0) (refused : (n : ℕ) → P (appended.Refused n)) where
-  appended-past : (b : Bool) (n : ℕ) (x : Appended) → (b ≡ false → P x) → P (append.refuseIf b n x)
-  appended-past true n x f = refused n
-  appended-past false n x f = f refl
-
 decided-yes : (a b : Bool) (after : Log) (settled pending : List ℕ)
-    → (a ≡ false → b ≡ true → Good after settled pending) → AfterDecided Good (decideUnless a (yesIf b after)) settled pending
-decided-yes true b after settled pending f = tt
-decided-yes false true after settled pending f = f refl refl
-decided-yes false false after settled pending f = tt
+    → (a ≡ false → b ≡ true → Good after settled pending) → AfterDecided Good (cond a (decided.Refused brokenState) (cond b (decided.Yes after) decided.No)) settled pending
+decided-yes a b after settled pending f =
+    let P : Decided → Type 0 = λ x. AfterDecided Good x settled pending in
+    either-end P a (λ _. tt) (λ no. either-end P b (f no) (λ _. tt))
 
 either-false : (a b : Bool) → a || b ≡ false → (a ≡ false) × (b ≡ false)
 either-false false b h = (refl, h)
@@ -152,10 +127,10 @@ module _ (l : Log) (settled pending : List ℕ) where
   unfolding commitTo
   commit-to-keeps i =
       let P : Changed → Type 0 = λ a. AfterChanged Good a settled pending in
-      changed-past P (λ n. tt) (broken l settled pending) brokenState _ (λ h.
+      either-end P (broken l settled pending) (λ _. tt) (λ h.
       let g : Good l settled pending = sound-log h in
-      changed-either P (leb i (l .committed .0)) _ _ g (λ a.
-      changed-past P (λ n. tt) (ltb (lastOf l) i) outOfRange _ (λ b.
+      either-end P (leb i (l .committed .0)) (λ _. g) (λ a.
+      either-end P (ltb (lastOf l) i) (λ _. tt) (λ b.
       let above : l .committed .0 < i = leb-false _ _ a in
       committed-moved g i (omega (arith, g .applied≤committed)) (ltb-false _ _ b))))
 
@@ -163,10 +138,10 @@ module _ (l : Log) (settled pending : List ℕ) where
   unfolding appliedTo
   applied-to-keeps i =
       let P : Changed → Type 0 = λ a. AfterChanged Good a settled pending in
-      changed-past P (λ n. tt) (broken l settled pending) brokenState _ (λ h.
+      either-end P (broken l settled pending) (λ _. tt) (λ h.
       let g : Good l settled pending = sound-log h in
-      changed-either P (eqb i 0) _ _ g (λ a.
-      changed-past P (λ n. tt) (ltb (min (l .committed .0) (l .persisted .0)) i || ltb i (l .applied .0)) outOfRange _ (λ b.
+      either-end P (eqb i 0) (λ _. g) (λ a.
+      either-end P (ltb (min (l .committed .0) (l .persisted .0)) i || ltb i (l .applied .0)) (λ _. tt) (λ b.
       let within = either-false (ltb (min (l .committed .0) (l .persisted .0)) i) (ltb i (l .applied .0)) b in
       applied-moved g i (ltb-false _ _ (within .1)) (ltb-false _ _ (within .0)))))
 
@@ -194,8 +169,8 @@ pub new-keeps : (start startterm last : ℕ) (settled pending : List ℕ) → Af
 unfolding setupAnswer setupOk
 new-keeps start startterm last settled pending =
     let P : Changed → Type 0 = λ a. AfterChanged Good a settled pending in
-    changed-past P (λ n. tt) (not (setupOk start startterm last settled)) brokenState _ (λ h.
-    changed-past P (λ n. tt) (settledZero settled (last - start)) zeroTerm _ (λ z.
+    either-end P (not (setupOk start startterm last settled)) (λ _. tt) (λ h.
+    either-end P (settledZero settled (last - start)) (λ _. tt) (λ z.
     let a = split _ _ (not-false _ h) in
     let b = split _ _ (a .0) in
     let c = split _ _ (b .0) in
@@ -232,9 +207,9 @@ module _ (l : Log) (settled pending : List ℕ) where
   unfolding settleAnswer settleStore
   stable-entries-keeps i t =
       let P : Changed → Type 0 = λ a. AfterChanged Good a (settleStore a l settled pending) pending in
-      changed-past P (λ n. tt) (broken l settled pending) brokenState _ (λ h.
-      changed-past P (λ n. tt) (settledOverfull l settled) noRoom _ (λ f.
-      changed-past P (λ n. tt) (not (isLast l settled pending i t)) notPending _ (λ y.
+      either-end P (broken l settled pending) (λ _. tt) (λ h.
+      either-end P (settledOverfull l settled) (λ _. tt) (λ f.
+      either-end P (not (isLast l settled pending i t)) (λ _. tt) (λ y.
       let g : Good l settled pending = sound-log l settled pending h in
       let fits : lastOf l - l .start .0 ≤ room settled = ltb-false _ _ f in
       all-settled g fits _ (length-paste settled ((l .offset .0 - 1 - l .start .0) * recordWords) pending (l .count * recordWords) (omega arith) (omega arith)))))
@@ -271,7 +246,7 @@ length-put-run s at run k (suc n) =
     length-put-run (putRecord s at (recordOf run k)) (at + 1) run (k + 1) n ∙ length-sets s (at * recordWords) (recordOf run k)
 
 -- a store with a run put into it, or as it was, is as long as it was
-length-store-if : (b : Bool) (s : List ℕ) (at : ℕ) (run : List ℕ) (k n : ℕ) → length (storeIf b s (putRun s at run k n)) ≡ length s
+length-store-if : (b : Bool) (s : List ℕ) (at : ℕ) (run : List ℕ) (k n : ℕ) → length (cond b s (putRun s at run k n)) ≡ length s
 length-store-if true s at run k n = refl
 length-store-if false s at run k n = length-put-run s at run k n
 
@@ -283,10 +258,10 @@ module _ (l : Log) (settled pending : List ℕ) where
   unfolding extendFrom extendStore
   extend-from-keeps run first n g some limited =
       let P : Extended → Type 0 = λ a. AfterExtended Good a settled (extendStore a pending run) in
-      extended-past P (λ m. tt) (startsCommitted l first) cutsCommitted _ (λ a.
-      extended-past P (λ m. tt) (leavesGap l first) outOfRange _ (λ b.
-      extended-past P (λ m. tt) (overfull (extend.extended l first n) pending) noRoom _ (λ c.
-      extended-past P (λ m. tt) (startsPersisted l first) outOfRange _ (λ d.
+      either-end P (startsCommitted l first) (λ _. tt) (λ a.
+      either-end P (leavesGap l first) (λ _. tt) (λ b.
+      either-end P (overfull (extend.extended l first n) pending) (λ _. tt) (λ c.
+      either-end P (startsPersisted l first) (λ _. tt) (λ d.
       same-room
       (cut-good g first (first + n - 1) (l .persisted .0)
       (leb-false _ _ a) (omega arith) (omega arith) (ltb-false _ _ c)
@@ -297,12 +272,11 @@ module _ (l : Log) (settled pending : List ℕ) where
   unfolding extendAnswer extendStore
   append-keeps run =
       let P : Extended → Type 0 = λ a. AfterExtended Good a settled (extendStore a pending run) in
-      extended-past P (λ m. tt) (broken l settled pending) brokenState _ (λ h.
-      extended-past P (λ m. tt) (badRun run) misnumberedRun _ (λ b.
-      extended-past P (λ m. tt) (zeroTermIn run) zeroTerm _ (λ z.
+      either-end P (broken l settled pending) (λ _. tt) (λ h.
+      either-end P (badRun run) (λ _. tt) (λ b.
+      either-end P (zeroTermIn run) (λ _. tt) (λ z.
       let g : Good l settled pending = sound-log l settled pending h in
-      extended-unless P (eqb (length run) 0) _ _
-      (same-room g refl (length-store-if (eqb (length run) 0) pending _ run _ _))
+      either-end P (eqb (length run) 0) (λ _. same-room g refl (length-store-if (eqb (length run) 0) pending _ run _ _))
       (λ e.
       let bad = either-false (eqb (firstOf run) 0) (misnumbered run (firstOf run - 1)) (second-false (not (eqb (length run) 0)) _ (ap not e) b) in
       let nonzero : firstOf run ≡ 0 → ⊥ = eqb-false _ _ (bad .0) in
@@ -372,13 +346,13 @@ module _ (l : Log) (settled pending : List ℕ) where
       let P : Appended → Type 0 = λ a. AfterAppended Good a settled (appendStore a pending idx run) in
       let n : ℕ = runCount run in
       let k : ℕ = firstFrom (differs l settled pending idx run) 0 (runCount run) in
-      appended-past P (λ m. tt) (broken l settled pending) brokenState _ (λ b.
-      appended-past P (λ m. tt) (misnumbered run idx) misnumberedRun _ (λ u.
-      appended-past P (λ m. tt) (zeroTermIn run) zeroTerm _ (λ z.
-      appended-past P (λ m. tt) (outside l idx term) outsideLog _ (λ o.
-      appended-past P (λ m. tt) (mismatched l settled pending idx term) mismatch _ (λ d.
-      appended-past P (λ m. tt) (cuts l idx n k) cutsCommitted _ (λ c.
-      appended-past P (λ m. tt) (overfull (afterMessage l idx n k commit) pending) noRoom _ (λ r.
+      either-end P (broken l settled pending) (λ _. tt) (λ b.
+      either-end P (misnumbered run idx) (λ _. tt) (λ u.
+      either-end P (zeroTermIn run) (λ _. tt) (λ z.
+      either-end P (outside l idx term) (λ _. tt) (λ o.
+      either-end P (mismatched l settled pending idx term) (λ _. tt) (λ d.
+      either-end P (cuts l idx n k) (λ _. tt) (λ c.
+      either-end P (overfull (afterMessage l idx n k commit) pending) (λ _. tt) (λ r.
       let g : Good l settled pending = sound-log l settled pending b in
       same-room
       (message-good g idx n k commit c (last-held g idx term run o (eqb-true _ _ (not-false _ d)) z) (numbered-rises run idx (not-false _ u) .limited) r)

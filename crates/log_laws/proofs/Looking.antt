@@ -1,7 +1,7 @@
 -- What the looking calls answer of a good log, said of the list of records that the state and the words stand for.
 use Prim.Native.Nat.{ℕ, zero, suc, _+_, _≤_, _<_}
 use mathlib.Core.Path.{_≡_, refl, sym, ap, _∙_}
-use mathlib.Core.Bool.{Bool, true, false, not, _&&_, _||_}
+use mathlib.Core.Bool.{Bool, true, false, not, _&&_, _||_, cond}
 use mathlib.Core.List.{List}
 use mathlib.Core.Logic.{⊎-elim}
 use native.Mathlib.Omega.{arith}
@@ -10,6 +10,7 @@ use borrow.Author.Tests.{leb-true, leb-false, le-leb, eqb-true, eq-eqb}
 use Rattle.units.specs.declared.Index.{Index}
 use Rattle.units.specs.declared.Term.{Term}
 use Rattle.units.specs.Units.{indexOf, termOf}
+use Rattle.units.proofs.Never.{never}
 use Rattle.rules.specs.Log.{last, term-of}
 use Rattle.raft_log.specs.declared.Log.{Log}
 use Rattle.raft_log.specs.declared.Looked.the-variants as looked
@@ -18,8 +19,7 @@ use Rattle.raft_log.specs.declared.Info.the-variants as info
 use Rattle.raft_log.specs.declared.Told.the-variants as told
 use Rattle.raft_log.specs.declared.ByTerm.the-variants as byterm
 use Rattle.raft_log.specs.State.{Good, broken, agree, lastOf, termAt}
-use Rattle.raft_log.specs.Words.{pick}
-use Rattle.raft_log.specs.Look.{lookTerm, lookFirst, lookLast, lookLastTerm, lookCommit, lookUpToDate, lastDown, atMost, either, foundAt, byTermIn, byTerm}
+use Rattle.raft_log.specs.Look.{lookTerm, lookFirst, lookLast, lookLastTerm, lookCommit, lookUpToDate, lastDown, atMost, foundAt, byTermIn, byTerm}
 use Rattle.raft_log.proofs.Searching.{below-or-not}
 use Rattle.raft_log.proofs.States.{good-ok, term-below, term-start}
 use Rattle.log_laws.specs.View.{view-of}
@@ -27,17 +27,17 @@ use Rattle.log_laws.specs.Looking.{FoundBelow}
 use Rattle.log_laws.proofs.Views.{view-start, view-last, view-term}
 
 -- The largest number from i down that p holds of: p holds there, and of none above it.
-pick-within : (b : Bool) (i j : ℕ) → j ≤ i → pick b (suc i) j ≤ suc i
+pick-within : (b : Bool) (i j : ℕ) → j ≤ i → cond b (suc i) j ≤ suc i
 pick-within true i j h = omega arith
 pick-within false i j h = omega arith
 
 module _ (p : ℕ → Bool) where
-  pick-hit : (b : Bool) (i j : ℕ) → p (suc i) ≡ b → p j ≡ true → p (pick b (suc i) j) ≡ true
+  pick-hit : (b : Bool) (i j : ℕ) → p (suc i) ≡ b → p j ≡ true → p (cond b (suc i) j) ≡ true
   pick-hit true i j e h = e
   pick-hit false i j e h = h
 
   -- k is the place just passed, or lies below it
-  pick-miss : (b : Bool) (i j k : ℕ) → p (suc i) ≡ b → ((n : ℕ) → j < n → n ≤ i → p n ≡ false) → pick b (suc i) j < k → k ≤ suc i → p k ≡ false
+  pick-miss : (b : Bool) (i j k : ℕ) → p (suc i) ≡ b → ((n : ℕ) → j < n → n ≤ i → p n ≡ false) → cond b (suc i) j < k → k ≤ suc i → p k ≡ false
   pick-miss true i j k e miss h g = let z : ⊥ = omega arith in absurd z
   pick-miss false i j k e miss h g =
       ⊎-elim (λ a. miss k h (omega arith)) (λ a. let same : k ≡ suc i = omega arith in ap p same ∙ e) (below-or-not k (suc i))
@@ -112,8 +112,8 @@ module _ (l : Log) (settled pending : List ℕ) (good : Good l settled pending) 
       largest = λ k h g. omega (arith, leb-false (termAt l settled pending k) t (down-miss low-enough i k h g), held-term k);
     }
 
-    found-at : (b : Bool) (j : Index) (u : Term) → either b (byterm.Beyond (indexOf i)) (foundAt l settled pending down) ≡ byterm.Found j u → FoundBelow (view-of l settled pending) i t (j .0) (u .0)
-    found-at true j u e = let z : _≡_ {A = ℕ} 0 1 = cc in let w : ⊥ = omega arith in absurd w
+    found-at : (b : Bool) (j : Index) (u : Term) → cond b (byterm.Beyond (indexOf i)) (foundAt l settled pending down) ≡ byterm.Found j u → FoundBelow (view-of l settled pending) i t (j .0) (u .0)
+    found-at true j u e = never cc
     found-at false j u e =
         let p : indexOf down ≡ j = cc in
         let q : termOf (termAt l settled pending down) ≡ u = cc in

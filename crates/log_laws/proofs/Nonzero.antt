@@ -1,12 +1,12 @@
 -- Records that all have a nonzero term, as a list and as a log; the paper's receiver keeps them so.
 use Prim.Native.Nat.{ℕ, zero, suc, _+_, _-_, _<_}
 use mathlib.Core.Path.{_≡_, sym, ap, subst, _∙_}
-use mathlib.Core.Bool.{Bool, true, false}
+use mathlib.Core.Bool.{Bool, true, false, cond}
 use mathlib.Core.List.{List, [], _∷_, _++_}
 use native.Mathlib.Omega.{arith}
 use lib.ListN.{length, getD, take, drop}
 use Rattle.rules.specs.Log.{Entry, nothing, Log, last}
-use Rattle.rules.specs.Receiver.{Message, Answer, reply-false, success, contains, step-2, conflicts, delete-if, step-3, step-4, step-5, last-new, receiver}
+use Rattle.rules.specs.Receiver.{Message, Answer, reply-false, success, contains, conflicts, step-3, step-4, step-5, last-new, receiver, delete-from}
 use Rattle.log_laws.specs.View.{listed}
 use Rattle.log_laws.specs.Keep.{NonzeroTerms}
 use Rattle.log_laws.proofs.Views.{entry-after}
@@ -61,7 +61,7 @@ module _ (l : Log) where
 
 -- ---- the paper's receiver
 
-delete-set : (b : Bool) (l : Log) (i : ℕ) (kept : Log) → AllSet (l .entries) → AllSet (kept .entries) → AllSet (delete-if b l i kept .entries)
+delete-set : (b : Bool) (l : Log) (i : ℕ) (kept : Log) → AllSet (l .entries) → AllSet (kept .entries) → AllSet (cond b (delete-from l i) kept .entries)
 delete-set true l i kept p q = set-take (i - l .start - 1) (l .entries) p
 delete-set false l i kept p q = q
 
@@ -79,7 +79,7 @@ abbrev pub AfterSteps : Answer → Type 0
 AfterSteps reply-false = Unit {0}
 AfterSteps (success l commit-index) = NonzeroTerms l
 
-step-2-nonzero : (b : Bool) (l : Log) (commit-index : ℕ) → NonzeroTerms l → AfterSteps (step-2 b (success l commit-index))
+step-2-nonzero : (b : Bool) (l : Log) (commit-index : ℕ) → NonzeroTerms l → AfterSteps (cond b (success l commit-index) reply-false)
 step-2-nonzero true l commit-index h = h
 step-2-nonzero false l commit-index h = tt
 

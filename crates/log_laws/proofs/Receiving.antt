@@ -1,7 +1,7 @@
 -- THE THEOREM about `maybe_append`: where it takes a message, it did the receiver's steps of the paper (rules/specs/Receiver.antt) on the log that its stores stand for; where it refuses by 4 or 5, step 2 replies false.
 -- One difference from the paper: committed never falls, so it is the larger of itself and what step 5 says.
 use mathlib.Core.Path.{_≡_, refl, sym, ap, ap₂, subst, _∙_}
-use mathlib.Core.Bool.{Bool, true, false, not, _&&_, _||_, false≢true}
+use mathlib.Core.Bool.{Bool, true, false, not, _&&_, _||_, false≢true, cond}
 use mathlib.Core.Logic.{_⊎_, ⊎-elim, inl, inr}
 use mathlib.Core.List.{List, _++_, append-nil}
 use Prim.Native.Nat.{ℕ, _+_, _-_, _≤_, _<_, min, max}
@@ -11,21 +11,24 @@ use lib.Dec.{ltb, eqb, leb}
 use lib.ListN.{length, getD, take, drop, drop-of-length-le}
 use lib.Seq.{length-take-le, take-all}
 use Rattle.rules.specs.Log.{Entry, nothing, Log as Abstract, last}
-use Rattle.rules.specs.Receiver.{Answer, reply-false, success, contains, step-2, conflicts, with-entries, step-3, step-4, step-5, receiver}
+use Rattle.rules.specs.Receiver.{Answer, reply-false, success, contains, conflicts, with-entries, step-3, step-4, step-5, receiver}
 use Rattle.rules.proofs.Receiver.{conflict-at, step-3-keeps, step-3-deletes}
 use Rattle.units.specs.Units.{indexOf}
 use Rattle.units.specs.declared.Index.{Index}
-use Rattle.units.specs.Refusals.{brokenState, misnumberedRun, zeroTerm, outsideLog, mismatch, cutsCommitted, noRoom}
+use Rattle.units.specs.Refusals.{outsideLog, mismatch}
+use Rattle.units.proofs.Cond.{past}
+use Rattle.units.proofs.Never.{never}
 use Rattle.raft_log.specs.declared.Log.{Log}
 use Rattle.raft_log.specs.declared.Appended.{Appended}
 use Rattle.raft_log.specs.declared.Appended.the-variants.{Done, Refused}
-use Rattle.raft_log.specs.Words.{room, runCount, runTerm, firstFrom, none, putRun, pick}
+use Rattle.raft_log.specs.Words.{room, runCount, runTerm, firstFrom, none, putRun}
 use Rattle.raft_log.specs.State.{Good, lastOf, broken, termAt}
 use Rattle.raft_log.specs.Run.{misnumbered, zeroTermIn, termsSet}
-use Rattle.raft_log.specs.Append.{refuseIf, cuts, accepted, decide, matchRun, appendAnswer, outside, mismatched, differs, cutIf, commitUp, afterMessage, overfull, appendStore, storeIf}
+use Rattle.raft_log.specs.Append.{cuts, accepted, decide, matchRun, appendAnswer, outside, mismatched, differs, cutIf, commitUp, afterMessage, overfull, appendStore}
 use Rattle.log_laws.specs.View.{runEntry, listed, runEntries, view-of, messageOf}
 use Rattle.raft_log.proofs.States.{split, refuted, ok-good, term-below, term-beyond}
 use Rattle.raft_log.proofs.Searching.{below-or-not, found}
+use Rattle.raft_log.proofs.Appending.{no-done}
 use Rattle.log_laws.proofs.Cutting.{view-cut}
 use Rattle.log_laws.proofs.Views.{same?, length-listed, at-listed, drop-listed, view-length, view-last, view-term}
 
@@ -208,7 +211,7 @@ module _ (l : Log) (settled pending : List ℕ) (good : Good l settled pending) 
     abbrev result : Bool → Abstract
     result b =
         view-of (after b) settled
-        (appendStore (Done (indexOf (pick b (idx + 1 + k) 0)) (indexOf (idx + n)) (after b)) pending idx run)
+        (appendStore (Done (indexOf (cond b (idx + 1 + k) 0)) (indexOf (idx + n)) (after b)) pending idx run)
 
     result-none : v ≡ result false
     unfolding appendStore view-of
@@ -225,7 +228,7 @@ module _ (l : Log) (settled pending : List ℕ) (good : Good l settled pending) 
         drop-listed (runEntry run) 0 n k k≤n ∙ ap₂ (listed (runEntry run)) (omega arith) (omega arith) in
         ap (λ (x : List Entry). with-entries v (stay ++ x)) rest
         ∙ sym (view-cut l settled pending good conflict (omega arith) (omega (arith, held)) run from many (idx + n) (min (l .persisted .0) (conflict - 1)) (omega arith) r)
-        ∙ ap (λ (b : Bool). view-of (after true) settled (storeIf b pending store)) (sym (ne-eqb conflict 0 (omega arith)))
+        ∙ ap (λ (b : Bool). view-of (after true) settled (cond b pending store)) (sym (ne-eqb conflict 0 (omega arith)))
 
     -- STEPS 3 AND 4 on the view are the cut and the write.
     steps-are : overfull (afterMessage l idx n k commit) pending ≡ false → step-4 (step-3 v (idx + 1) es) idx es ≡ result (ltb k n)
@@ -262,19 +265,9 @@ terms-set : (run : List ℕ) → termsSet run ≡ true → (j : ℕ) → j < run
 unfolding termsSet
 terms-set run h = none-zero (runTerm run) (runCount run) h
 
-pub no-done : {r : ℕ} {c m : Index} {a : Log} → Refused r ≡ Done c m a → ⊥
-no-done h =
-    let z : _≡_ {A = ℕ} 0 1 = cc in
-    omega arith
-
-pub inverted : (b : Bool) (r : ℕ) (x : Appended) {c m : Index} {a : Log} → refuseIf b r x ≡ Done c m a → (b ≡ false) × (x ≡ Done c m a)
-inverted true r x h = absurd (no-done h)
-inverted false r x h = (refl, h)
-
--- a refusal by s is none by r
-pub declined : (b : Bool) (r s : ℕ) (x : Appended) → (r ≡ s → ⊥) → refuseIf b r x ≡ Refused s → (b ≡ false) × (x ≡ Refused s)
-declined true r s x other h = absurd (other (cc))
-declined false r s x other h = (refl, h)
+-- a refusal by one number is none by another
+pub other-refusal : {r s : ℕ} → (r ≡ s → ⊥) → Refused r ≡ Refused s → ⊥
+other-refusal other h = other (cc)
 
 pub neither : (a b : Bool) → not (a || b) ≡ true → (a ≡ false) × (b ≡ false)
 neither true b h = absurd (false≢true h)
@@ -313,7 +306,7 @@ module _ (l : Log) (settled pending : List ℕ) (idx term commit : ℕ) (run : L
         commit-index = index;
         steps =
             ap
-            (λ (b : Bool). step-2 b (success (step-4 (step-3 (view-of l settled pending) (idx + 1) (runEntries run)) idx (runEntries run)) index))
+            (λ (b : Bool). cond b (success (step-4 (step-3 (view-of l settled pending) (idx + 1) (runEntries run)) idx (runEntries run)) index) reply-false)
             there
             ∙ ap (λ (d : Abstract). success d index) (steps-are l settled pending good idx run (w .0) (w .1) (terms-set run terms) commit fits);
         committed =
@@ -326,13 +319,13 @@ module _ (l : Log) (settled pending : List ℕ) (idx term commit : ℕ) (run : L
   pub taken : (c m : Index) (a : Log) → appendAnswer l settled pending idx term commit run ≡ Done c m a → Taken a (appendStore (Done c m a) pending idx run)
   unfolding appendAnswer matchRun decide
   taken c m a h =
-      let b1 = inverted (broken l settled pending) brokenState _ h in
-      let b2 = inverted (misnumbered run idx) misnumberedRun _ (b1 .1) in
-      let b3 = inverted (zeroTermIn run) zeroTerm _ (b2 .1) in
-      let b4 = inverted (outside l idx term) outsideLog _ (b3 .1) in
-      let b5 = inverted (mismatched l settled pending idx term) mismatch _ (b4 .1) in
-      let b6 = inverted (cuts l idx count alike) cutsCommitted _ (b5 .1) in
-      let b7 = inverted (overfull (afterMessage l idx count alike commit) pending) noRoom _ (b6 .1) in
+      let b1 = past (broken l settled pending) no-done h in
+      let b2 = past (misnumbered run idx) no-done (b1 .1) in
+      let b3 = past (zeroTermIn run) no-done (b2 .1) in
+      let b4 = past (outside l idx term) no-done (b3 .1) in
+      let b5 = past (mismatched l settled pending idx term) no-done (b4 .1) in
+      let b6 = past (cuts l idx count alike) no-done (b5 .1) in
+      let b7 = past (overfull (afterMessage l idx count alike commit) pending) no-done (b6 .1) in
       let good = ok-good l settled pending (not-false _ (b1 .0)) in
       let there = step-2-is l settled pending good idx term ∙ ap₂ (λ (x y : Bool). not (x || y)) (b4 .0) (b5 .0) in
       subst TakenBy (b7 .1) (accepted-taken good there (not-false _ (b3 .0)) (b7 .0))
@@ -343,25 +336,22 @@ module _ (l : Log) (settled pending : List ℕ) (idx term commit : ℕ) (run : L
   refused s w h =
       let low : outsideLog ≤ s = ⊎-elim (λ e. omega arith) (λ e. omega arith) w in
       let high : s ≤ mismatch = ⊎-elim (λ e. omega arith) (λ e. omega arith) w in
-      let b1 = declined (broken l settled pending) brokenState s _ (omega arith) h in
-      let b2 = declined (misnumbered run idx) misnumberedRun s _ (omega arith) (b1 .1) in
-      let b3 = declined (zeroTermIn run) zeroTerm s _ (omega arith) (b2 .1) in
+      let b1 = past (broken l settled pending) (other-refusal (omega arith)) h in
+      let b2 = past (misnumbered run idx) (other-refusal (omega arith)) (b1 .1) in
+      let b3 = past (zeroTermIn run) (other-refusal (omega arith)) (b2 .1) in
       let good = ok-good l settled pending (not-false _ (b1 .0)) in
       let gone : contains (view-of l settled pending) idx term ≡ false = refuted _ (λ there.
       let both = neither (outside l idx term) (mismatched l settled pending idx term) (sym (step-2-is l settled pending good idx term) ∙ there) in
-      let decided = sym (ap₂ (λ (x y : Bool). refuseIf x outsideLog (refuseIf y mismatch (decide l pending idx commit count alike))) (both .0) (both .1)) ∙ b3 .1 in
-      let b6 = declined (cuts l idx count alike) cutsCommitted s _ (omega arith) decided in
-      let b7 = declined (overfull (afterMessage l idx count alike commit) pending) noRoom s _ (omega arith) (b6 .1) in
+      let decided = sym (ap₂ (λ (x y : Bool). cond x (Refused outsideLog) (cond y (Refused mismatch) (decide l pending idx commit count alike))) (both .0) (both .1)) ∙ b3 .1 in
+      let b6 = past (cuts l idx count alike) (other-refusal (omega arith)) decided in
+      let b7 = past (overfull (afterMessage l idx count alike commit) pending) (other-refusal (omega arith)) (b6 .1) in
       no-done (sym (b7 .1))) in
       ap
-      (λ (b : Bool). step-2 b (success (step-4 (step-3 (view-of l settled pending) (idx + 1) (runEntries run)) idx (runEntries run)) (step-5 (l .committed .0) commit (idx + length (runEntries run)))))
+      (λ (b : Bool). cond b (success (step-4 (step-3 (view-of l settled pending) (idx + 1) (runEntries run)) idx (runEntries run)) (step-5 (l .committed .0) commit (idx + length (runEntries run)))) reply-false)
       gone
 
-  replied : (b : Bool) (d : Abstract) (x : ℕ) → step-2 b (success d x) ≡ reply-false → b ≡ false
-  replied true d x h =
-      let z : _≡_ {A = ℕ} 0 1 = cc in
-      let no-way : ⊥ = omega arith in
-      absurd no-way
+  replied : (b : Bool) (d : Abstract) (x : ℕ) → cond b (success d x) reply-false ≡ reply-false → b ≡ false
+  replied true d x h = never cc
   replied false d x h = refl
 
   tests : (a b : Bool) → outside l idx term ≡ a → mismatched l settled pending idx term ≡ b → not (a || b) ≡ false

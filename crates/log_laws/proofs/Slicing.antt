@@ -1,6 +1,6 @@
 -- `slice`, `entries` and `next_entries_since` give the records of the view, bodies included: each from the first index that was asked for, as far as one store holds them; and a slice from the store boundary on gives the rest.
 use mathlib.Core.Path.{_≡_, refl, sym, ap, _∙_, subst}
-use mathlib.Core.Bool.{Bool, true, false, not}
+use mathlib.Core.Bool.{Bool, true, false, not, cond}
 use mathlib.Core.List.{List, _++_}
 use mathlib.Core.Logic.{⊎-elim}
 use Prim.Native.Nat.{ℕ, _+_, _≤_, _<_, min}
@@ -16,7 +16,7 @@ use Rattle.raft_log.specs.declared.Bounds.{Bounds}
 use Rattle.raft_log.specs.declared.Bounds.the-variants as bounds
 use Rattle.raft_log.specs.declared.Told.the-variants as told
 use Rattle.raft_log.specs.State.{Good, broken, lastOf}
-use Rattle.raft_log.specs.Slice.{boundsIf, inStore, sliceIn, sliceBounds, entriesBounds, nextLow, nextHigh, hasNext, hasNextSince, nextBounds, storePart, partOf}
+use Rattle.raft_log.specs.Slice.{inStore, sliceIn, sliceBounds, entriesBounds, nextLow, nextHigh, hasNext, hasNextSince, nextBounds, storePart, partOf}
 use Rattle.log_laws.specs.View.{storeEntry, view-of}
 use Rattle.log_laws.specs.Slicing.{Reads, Askable, Part, Gives}
 use Rattle.raft_log.proofs.Searching.{below-or-not}
@@ -25,7 +25,7 @@ use Rattle.raft_log.proofs.Slices.{none-between, in-pending, slice-inside, next
 use Rattle.log_laws.proofs.Views.{view-start, view-last, entry-settled, entry-pending}
 use Rattle.log_laws.proofs.Ranges.{part-reads, joined-reads}
 
-by-test : (P : Bounds → Type 0) (b : Bool) {x y : Bounds} → (b ≡ true → P x) → (b ≡ false → P y) → P (boundsIf b x y)
+by-test : (P : Bounds → Type 0) (b : Bool) {x y : Bounds} → (b ≡ true → P x) → (b ≡ false → P y) → P (cond b x y)
 by-test P true f g = f refl
 by-test P false f g = g refl
 
@@ -55,7 +55,7 @@ module _ (l : Log) (settled pending : List ℕ) where
     abbrev Given : Bounds → Type 0
     Given = Gives l settled pending low high None
 
-    unless-broken : (x : Bounds) → (Good l settled pending → Given x) → Given (boundsIf (broken l settled pending) (bounds.Refused brokenState) x)
+    unless-broken : (x : Bounds) → (Good l settled pending → Given x) → Given (cond (broken l settled pending) (bounds.Refused brokenState) x)
     unless-broken x f =
         by-test Given (broken l settled pending) (λ t q. not-both t (sound (q .good))) (λ b. f (ok-good l settled pending (not-false _ b)))
 

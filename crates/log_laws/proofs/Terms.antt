@@ -8,7 +8,7 @@ use native.Mathlib.Omega.{arith}
 use borrow.Author.Tests.{eq-eqb, eqb-true, not-false}
 use lib.Dec.{eqb}
 use lib.ListN.{length, take}
-use Rattle.units.specs.Refusals.{brokenState, misnumberedRun, zeroTerm}
+use Rattle.units.proofs.Cond.{either-end, past}
 use Rattle.rules.specs.Log.{Entry, Log as Abstract, last, term-of}
 use Rattle.raft_log.specs.declared.Log.{Log}
 use Rattle.raft_log.specs.declared.Changed.{Changed}
@@ -28,17 +28,16 @@ use Rattle.raft_log.specs.Commit.{commitTo, appliedTo, maybeCommit, maybePersis
 use Rattle.raft_log.specs.Settle.{settleAnswer, settleStore}
 use Rattle.raft_log.specs.Setup.{setupOk, settledZero, setupAnswer}
 use Rattle.raft_log.proofs.Searching.{below-or-not}
+use Rattle.raft_log.proofs.Extending.{no-last}
+use Rattle.raft_log.proofs.Appending.{no-done}
 use Rattle.log_laws.specs.View.{storeEntry, runEntry, listed, runEntries, view-of, messageOf}
 use Rattle.log_laws.specs.Keep.{AfterChanged, AfterDecided, AfterExtended, AfterAppended, NonzeroTerms, TermsSet}
-use Rattle.log_laws.proofs.Keep.{changed-past}
 use Rattle.log_laws.proofs.Views.{entry-start, view-last, view-term}
 use Rattle.log_laws.proofs.Looking.{at-zero}
 use Rattle.log_laws.proofs.Unmoved.{SameView, commit-to-view, applied-to-view, maybe-commit-view, maybe-persist-view}
 use Rattle.log_laws.proofs.Fresh.{fresh-view}
 use Rattle.log_laws.proofs.AfterCalls.{Extends, settled-view, extended-view}
-use Rattle.log_laws.proofs.AfterCalls as after
 use Rattle.log_laws.proofs.Receiving.{no-term, none-zero, taken}
-use Rattle.log_laws.proofs.Receiving as receiving
 use Rattle.log_laws.proofs.Nonzero.{AllSet, set-append, set-take, set-listed, nonzero-set, set-nonzero, AfterSteps, receiver-nonzero}
 
 -- ---- what refusal 3 lets through: n records among which its search finds no term 0, and a run
@@ -83,8 +82,8 @@ pub new-terms : (start startterm last : ℕ) (settled pending : List ℕ) → Af
 unfolding setupAnswer
 new-terms start startterm last settled pending =
     let P : Changed → Type 0 = λ a. AfterChanged TermsSet a settled pending in
-    changed-past P (λ n. tt) (not (setupOk start startterm last settled)) brokenState _ (λ h.
-    changed-past P (λ n. tt) (settledZero settled (last - start)) zeroTerm _ (λ z.
+    either-end P (not (setupOk start startterm last settled)) (λ _. tt) (λ h.
+    either-end P (settledZero settled (last - start)) (λ _. tt) (λ z.
     subst NonzeroTerms (sym (fresh-view start startterm last settled pending)) (set-nonzero _ (searched-set (storeEntry settled) (last - start) (not-false _ z)))))
 
 module _ (l : Log) (settled pending : List ℕ) (set : TermsSet l settled pending) where
@@ -114,9 +113,9 @@ module _ (l : Log) (settled pending : List ℕ) (set : TermsSet l settled pendin
     where
       go : (x : Extended) → extendAnswer l settled pending run ≡ x → AfterExtended TermsSet x settled (extendStore x pending run)
       go (extended.Last i a) e =
-          let b1 = after.inverted (broken l settled pending) brokenState _ e in
-          let b2 = after.inverted (badRun run) misnumberedRun _ (b1 .1) in
-          let b3 = after.inverted (zeroTermIn run) zeroTerm _ (b2 .1) in
+          let b1 = past (broken l settled pending) no-last e in
+          let b2 = past (badRun run) no-last (b1 .1) in
+          let b3 = past (zeroTermIn run) no-last (b2 .1) in
           extends-terms run (b3 .0) (eqb (length run) 0) a _ (extended-view l settled pending run i a e)
       go (extended.Refused number) e = tt
 
@@ -129,9 +128,9 @@ module _ (l : Log) (settled pending : List ℕ) (set : TermsSet l settled pendin
     where
       go : (x : Appended) → appendAnswer l settled pending idx term commit run ≡ x → AfterAppended TermsSet x settled (appendStore x pending idx run)
       go (appended.Done c m a) e =
-          let b1 = receiving.inverted (broken l settled pending) brokenState _ e in
-          let b2 = receiving.inverted (misnumbered run idx) misnumberedRun _ (b1 .1) in
-          let b3 = receiving.inverted (zeroTermIn run) zeroTerm _ (b2 .1) in
+          let b1 = past (broken l settled pending) no-done e in
+          let b2 = past (misnumbered run idx) no-done (b1 .1) in
+          let b3 = past (zeroTermIn run) no-done (b2 .1) in
           subst AfterSteps (taken l settled pending idx term commit run c m a e .steps)
           (receiver-nonzero _ (l .committed .0) (messageOf idx term commit run) set (run-set run (b3 .0)))
       go (appended.Refused number) e = tt

@@ -2,9 +2,9 @@
 use Prim.Native.Nat.{ℕ, _+_, _-_, _*_, _≤_, _<_, min}
 use mathlib.Core.Path.{_≡_}
 use mathlib.Core.List.{List}
-use lib.ListN.{length, take, drop}
+use lib.ListN.{length}
 use Rattle.units.specs.declared.Index.{Index}
-use Rattle.rules.specs.Log.{Entry, Log as Abstract, last}
+use Rattle.rules.specs.Log.{Entry, Log as Abstract, last, records-after}
 use Rattle.raft_log.specs.declared.Log.{Log}
 use Rattle.raft_log.specs.declared.Bounds.{Bounds}
 use Rattle.raft_log.specs.declared.Bounds.the-variants as bounds
@@ -15,7 +15,7 @@ use Rattle.log_laws.specs.View.{records, view-of}
 
 -- The records of a log at the indices from low up to, not including, high.
 unfoldable pub recordsFrom : Abstract → ℕ → ℕ → List Entry
-recordsFrom log low high = take (high - low) (drop (low - log .start - 1) (log .entries))
+recordsFrom log low high = records-after (log .entries) (low - log .start - 1) (high - low)
 
 -- The words are these records, one after the other, bodies included, and nothing else.
 pub record Reads (log : Abstract) (low high : ℕ) (words : List ℕ) : Type 0 where

@@ -14,6 +14,7 @@ use Rattle.units.specs.Refusals.{brokenState, brokenSet, bothChecks}
 use Rattle.units.specs.declared.Index.{Index}
 use Rattle.units.specs.declared.Check.{Check}
 use Rattle.units.specs.declared.Check.the-variants as check
+use Rattle.units.proofs.Never.{never}
 use Rattle.rules.specs.Count.{count}
 use Rattle.rules.specs.Log.{Entry, Agree}
 use Rattle.rules.proofs.Count.{count-map}
@@ -23,7 +24,7 @@ use Rattle.quorum.specs.Ids.{distinct}
 use Rattle.quorum.specs.Rows.{rowsCheck}
 use Rattle.quorum.specs.Voters.{votersOf, votersCheck}
 use Rattle.quorum.specs.Half.{halfIndex, joined}
-use Rattle.quorum.specs.Majority.{acksOf, indexUnless, committedIndex}
+use Rattle.quorum.specs.Majority.{acksOf, indexUnless, committedIndex, matchIndex}
 use Rattle.quorum.specs.Joint.{configCheck, jointIndex}
 use Rattle.quorum.specs.declared.half.Half.{Half}
 use Rattle.quorum.specs.declared.Committed.the-variants as found
@@ -48,7 +49,7 @@ use Rattle.two_ends.specs.TwoEnds.{Theorem as TwoEndsTheorem}
 use Rattle.two_ends.proofs.Agreeing.{agree-down}
 use Rattle.two_ends.proofs.Agreeing.{same-third}
 use Rattle.two_ends.proofs.Main.{two-ends}
-use Rattle.majority_holds.specs.MajorityHolds.{Acknowledged, accepted, own, matchIndex, Honest, HoldsUpTo, HeldByMajority, HeldByHalves, MayCount}
+use Rattle.majority_holds.specs.MajorityHolds.{Acknowledged, accepted, own, Honest, HoldsUpTo, HeldByMajority, HeldByHalves, MayCount}
 
 -- ---- one site
 
@@ -96,7 +97,7 @@ nobody-index config peers whole none = rw (whole, none .0, none .1) (ap (indexUn
 -- Where it says yes, nothing is wrong with the configuration or the rows, and somebody has a say.
 module _ (l : Log) (settled pending : List ℕ) (term : ℕ) (config : JointConfig) (peers : List Peer) (after : Log) (yea : leaderCommit l settled pending term config peers ≡ decided.Yes after) where
   not-refused : (n : ℕ) → leaderCommit l settled pending term config peers ≡ decided.Refused n → ⊥
-  not-refused n e = let z : _≡_ {A = ℕ} 0 1 = cc in omega arith
+  not-refused n e = never cc
 
   sound : broken l settled pending ≡ false
   sound = refuted (broken l settled pending) (λ b. not-refused brokenState (refuses-broken l settled pending term config peers b))
@@ -104,7 +105,7 @@ module _ (l : Log) (settled pending : List ℕ) (term : ℕ) (config : JointConf
   yes-whole : JointWhole config peers
   yes-whole =
       ⊎-elim (λ fine. fine)
-      (λ twelve. absurd (not-refused brokenSet (refuses-set l settled pending term config peers sound (λ fine. let z : _≡_ {A = ℕ} 0 1 = cc in omega arith))))
+      (λ twelve. absurd (not-refused brokenSet (refuses-set l settled pending term config peers sound (λ fine. never cc))))
       (with-rows-twelve (configCheck config) peers (config-twelve config))
 
   yes-voters : ¬ NoVoters config
@@ -113,8 +114,7 @@ module _ (l : Log) (settled pending : List ℕ) (term : ℕ) (config : JointConf
       let good = ok-good l settled pending (not-false _ sound) in
       let beyond = no-commit-beyond l settled pending sound wordMax term (omega (arith, good .committed≤last, good .last≤limit)) (omega (arith, good .last≤limit)) in
       let nay : leaderCommit l settled pending term config peers ≡ decided.No = rw (nobody-index config peers yes-whole none) beyond in
-      let z : _≡_ {A = ℕ} 0 1 = cc in
-      omega arith
+      never cc
 
 module _ (xs : List Entry) (sites : ℕ → Follower) (peers : List Peer) (honest : Honest xs sites peers) where
   counted-held : (id : ℕ) → 0 < matchIndex peers id → Agree (held (sites id)) (whole-list xs) (matchIndex peers id)

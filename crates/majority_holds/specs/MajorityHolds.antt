@@ -12,9 +12,8 @@ use Rattle.rules.specs.Count.{count}
 use Rattle.rules.specs.Majority.{quorum}
 use Rattle.rules.specs.Log.{Entry, last, Holds, Same, Agree}
 use Rattle.quorum.specs.Ids.{distinct}
-use Rattle.quorum.specs.Rows.{rowOf, ackNumber}
 use Rattle.quorum.specs.Voters.{votersOf}
-use Rattle.quorum.specs.Majority.{committedIndex}
+use Rattle.quorum.specs.Majority.{committedIndex, matchIndex}
 use Rattle.quorum.specs.Joint.{jointIndex}
 use Rattle.quorum.specs.declared.Committed.the-variants as found
 use Rattle.quorum.specs.declared.majority.Voters.{Voters}
@@ -46,10 +45,6 @@ pub record Accepted (xs : List Entry) (g : Follower) (k : ℕ) : Type 0 where
 pub data Acknowledged (xs : List Entry) (g : Follower) (k : ℕ) : Type 0 where
   accepted : Accepted xs g k → Acknowledged xs g k
   own : Agree (held g) (whole-list xs) (last (held g)) → Holds (held g) k → Acknowledged xs g k
-
--- The paper, figure 2, "matchIndex[]": "for each server, index of highest log entry known to be replicated on server (initialized to 0 ..)". It is what the quorums read for an id: 0 where it has no row, or has acknowledged nothing.
-abbrev pub matchIndex : List Peer → ℕ → ℕ
-matchIndex peers id = ackNumber (rowOf peers id .ack)
 
 -- The rows, which the caller fills, are honest: each number in them that is not 0 was acknowledged by the site of that id.
 abbrev pub Honest : List Entry → (ℕ → Follower) → List Peer → Type 0

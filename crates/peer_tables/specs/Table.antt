@@ -1,6 +1,6 @@
 -- Peer rows by value. A reader must know: the rows of a table are the first `count`; over the limit every question is refused with 12, and else its answer is that of the lent rows.
 use Prim.Native.Nat.{_+_, min}
-use mathlib.Core.Bool.{Bool, true, false}
+use mathlib.Core.Bool.{Bool, cond}
 use mathlib.Core.List.{List}
 use lib.ListN.{take, set, replicate}
 use lib.Dec.{ltb}
@@ -30,27 +30,22 @@ oneMore t p = record { peers = set (t .peers) (t .count) p; count = min (t .coun
 abbrev pub rowsIn : Table → List Peer
 rowsIn t = take (t .count) (t .peers)
 
--- The refusal where the test says yes, else the answer.
-abbrev pub either : {A : Type 0} → Bool → A → A → A
-either true refused answered = refused
-either false refused answered = answered
-
 -- 01, refusal 12: "over 64 rows".
 abbrev pub tooMany : Table → Bool
 tooMany t = ltb rowLimit (t .count)
 
 -- THE PROMISE of `majority::committed_index`: refusal 12 where there are too many rows, else the answer of the lent ones. So for the other three.
 abbrev pub tableIndex : Voters → Table → Committed
-tableIndex v t = either (tooMany t) (answer.Refused brokenSet) (committedIndex v (rowsIn t))
+tableIndex v t = cond (tooMany t) (answer.Refused brokenSet) (committedIndex v (rowsIn t))
 
 -- THE PROMISE of `majority::vote_result`.
 abbrev pub tableResult : Voters → Table → Verdict
-tableResult v t = either (tooMany t) (verdict.Refused brokenSet) (voteResult v (rowsIn t))
+tableResult v t = cond (tooMany t) (verdict.Refused brokenSet) (voteResult v (rowsIn t))
 
 -- THE PROMISE of `joint::committed_index`.
 abbrev pub tableJointIndex : JointConfig → Table → Committed
-tableJointIndex c t = either (tooMany t) (answer.Refused brokenSet) (jointIndex c (rowsIn t))
+tableJointIndex c t = cond (tooMany t) (answer.Refused brokenSet) (jointIndex c (rowsIn t))
 
 -- THE PROMISE of `joint::vote_result`.
 abbrev pub tableJointVerdict : JointConfig → Table → Verdict
-tableJointVerdict c t = either (tooMany t) (verdict.Refused brokenSet) (jointVerdict c (rowsIn t))
+tableJointVerdict c t = cond (tooMany t) (verdict.Refused brokenSet) (jointVerdict c (rowsIn t))

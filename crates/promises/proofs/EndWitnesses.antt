@@ -9,21 +9,21 @@ use native.Mathlib.Omega.{arith}
 use lib.Dec.{lit<, lit≤}
 use lib.ListN.{getD}
 use Rattle.rules.specs.Count.{count}
-use Rattle.rules.specs.Log.{Same, Matching, Agree}
+use Rattle.rules.specs.Log.{Same, Matching, Agree, records-after}
 use Rattle.rules.proofs.Count.{count-none, count-miss}
 use Rattle.quorum.specs.Ids.{position, has, distinct}
 use Rattle.quorum.specs.Voters.{setOf}
 use Rattle.quorum.specs.Joint.{oneSet}
 use Rattle.raft_log.specs.Settle.{settleAnswer, settleStore}
 use Rattle.two_ends.specs.Follower.{Follower, held, Message, WellFormed, engine, HasRoom, settles, does, arrives, between, follow, Made}
-use Rattle.two_ends.specs.Leader.{whole-list, as-run, records-after, cut, CutFrom}
+use Rattle.two_ends.specs.Leader.{whole-list, as-run, cut, CutFrom}
 use Rattle.two_ends.specs.TwoEnds.{Premises, Possible, Trace, HoldsPrevious, Accepts, Keeps, TwoEnds, Theorem, NeverDiffer}
 use Rattle.two_ends.specs.World.{World, sends, meets, next, May, history, History, AllCut, InTime, TheoremInTime}
 use Rattle.two_ends.specs.CatchUp.{Round, total, sending, AtEach, CaughtUp, CatchUp}
 use Rattle.two_ends.specs.Sanity.{entry, leader, log-with, settled-words, follower, late, third, heartbeat, from-zero, corrected, refuses-all, commits-blindly}
 use Rattle.two_ends.proofs.Carried.{made-sound}
 use Rattle.raft_log.proofs.States.{refuted}
-use Rattle.log_laws.proofs.Receiving.{no-done}
+use Rattle.raft_log.proofs.Appending.{no-done}
 use Rattle.two_ends.proofs.Cuts.{sent-cut}
 use Rattle.two_ends.proofs.Main.{two-ends}
 use Rattle.two_ends.proofs.World.{none-sent, in-time}
@@ -32,6 +32,7 @@ use Rattle.two_ends.proofs.Sanity.{concrete, follower-premises, late-premises, 
 use Rattle.majority_holds.specs.MajorityHolds.{Acknowledged, Honest, HoldsUpTo, HeldByMajority, HeldByHalves, MayCount}
 use Rattle.majority_holds.proofs.Main.{acknowledged-holds}
 use Rattle.promises.specs.Cases.{acking}
+use Rattle.units.proofs.Never.{never}
 
 -- ---- two logs
 
@@ -91,7 +92,7 @@ well-formed = (refl, refl)
 
 pub malformed : WellFormed (record { idx = 2; term = 1; commit = 1; run = 3 ∷ [] }) → ⊥
 unfolding concrete
-malformed w = let z : _≡_ {A = ℕ} 0 1 = cc (w .0) in omega arith
+malformed w = never (cc (w .0))
 
 no-such-run : (n : ℕ) → foreign .run ≡ as-run 3 (records-after leader 2 n) → ⊥
 unfolding concrete
@@ -122,7 +123,7 @@ has-room = refl
 
 pub no-room : HasRoom (record { log = follower .log; settled = follower .settled; pending = [] }) third → ⊥
 unfolding concrete
-no-room h = let z : _≡_ {A = ℕ} 0 1 = cc in omega arith
+no-room h = never cc
 
 -- The follower holds the record before it, and accepts it; one that starts later does not hold (0, 0), and accepts nothing that follows it.
 pub holds-previous : HoldsPrevious follower third
@@ -139,7 +140,7 @@ accepts = (_, _, _, refl, refl)
 
 pub accepts-not : (k : ℕ) → Accepts (engine late from-zero) k → ⊥
 unfolding concrete
-accepts-not k (conflict, named, after, e, q) = let z : _≡_ {A = ℕ} 0 1 = cc in omega arith
+accepts-not k (conflict, named, after, e, q) = never cc
 
 -- ---- the promises
 

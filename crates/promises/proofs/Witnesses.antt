@@ -11,6 +11,7 @@ use lib.ListN.{getD}
 use Rattle.units.specs.Units.{wordMax, indexOf, termOf}
 use Rattle.units.specs.Refusals.{outOfRange, windowFull}
 use Rattle.units.specs.declared.Check.the-variants as check
+use Rattle.units.proofs.Never.{never}
 use Rattle.rules.specs.Count.{count, Reordered, keep, swap, then}
 use Rattle.rules.specs.Log.{Entry, nothing, Log as Abstract, entry-at, Holds}
 use Rattle.rules.specs.Majority.{MajorityReached, Commits, insert, falling, kth-largest, committed}
@@ -228,7 +229,7 @@ whole = refl
 
 pub not-whole : Whole (setOf (1 ∷ 1 ∷ [])) [] → ⊥
 unfolding quorums
-not-whole w = let z : _≡_ {A = ℕ} 0 1 = cc in omega arith
+not-whole w = never cc
 
 pub joint-whole : JointWhole threeAndTwo (acking five)
 unfolding quorums
@@ -236,17 +237,17 @@ joint-whole = refl
 
 pub joint-not-whole : JointWhole threeAndTwo (acking five ++ acking five) → ⊥
 unfolding quorums
-joint-not-whole w = let z : _≡_ {A = ℕ} 0 1 = cc in omega arith
+joint-not-whole w = never cc
 
 pub not-only-twelve : OnlyTwelve (check.Refused windowFull) → ⊥
-not-only-twelve = ⊎-elim (λ e. let z : _≡_ {A = ℕ} 0 1 = cc in omega arith) (λ e. let z : _≡_ {A = ℕ} 11 12 = cc in omega arith)
+not-only-twelve = ⊎-elim (λ e. never cc) (λ e. let z : _≡_ {A = ℕ} 11 12 = cc in omega arith)
 
 -- A configuration of nobody, and one of five.
 pub no-voters : NoVoters (oneSet noVoters)
 no-voters = (refl, refl)
 
 pub some-voters : NoVoters threeAndTwo → ⊥
-some-voters empty = let z : _≡_ {A = ℕ} 0 1 = cc (empty .0) in omega arith
+some-voters empty = never (cc (empty .0))
 
 -- The ids of both halves, in rising order; in another order they are no such list.
 pub lists-both : ListsBoth threeAndTwo (1 ∷ 2 ∷ 3 ∷ 4 ∷ 5 ∷ [])
@@ -259,7 +260,7 @@ not-rising r = omega (arith, r .0 1 refl)
 
 pub lists-not-both : ListsBoth threeAndTwo [] → ⊥
 unfolding quorums
-lists-not-both l = let z : _≡_ {A = ℕ} 0 1 = cc (l .members 1) in omega arith
+lists-not-both l = never (cc (l .members 1))
 
 -- ---- the window
 
@@ -400,7 +401,7 @@ unfolding setupOk
 sets-up = ok-sets-up 0 0 3 settledA refl
 
 pub not-sets-up : Sets-up 0 1 3 settledA → ⊥
-not-sets-up s = let z : _≡_ {A = ℕ} 0 1 = cc (s .starts) in omega arith
+not-sets-up s = never (cc (s .starts))
 
 -- "idx 3, term 2, records (4,2),(5,4),(6,4)"
 abbrev run-4 : List ℕ

@@ -3,7 +3,7 @@
 use Prim.Native.Nat.{ℕ, _+_, min, max}
 use mathlib.Core.Path.{_≡_}
 use mathlib.Core.Logic.{_≢_}
-use mathlib.Core.Bool.{Bool, true, false, _||_}
+use mathlib.Core.Bool.{Bool, true, false, _||_, cond}
 use mathlib.Core.List.{List, [], _∷_, _++_}
 use lib.Dec.{eqb}
 use Rattle.units.specs.Units.{wordMax, indexOf, termOf}
@@ -24,7 +24,7 @@ use Rattle.raft_log.specs.declared.Bounds.the-variants as bounds
 use Rattle.raft_log.specs.Words.{runCount, firstFrom}
 use Rattle.raft_log.specs.State.{broken}
 use Rattle.raft_log.specs.Run.{misnumbered, zeroTermIn}
-use Rattle.raft_log.specs.Append.{differs, withCommitted, cutIf, afterMessage, outside, mismatched, cuts, overfull, refuseIf, accepted, appendAnswer, appendStore}
+use Rattle.raft_log.specs.Append.{differs, withCommitted, cutIf, afterMessage, outside, mismatched, cuts, overfull, accepted, appendAnswer, appendStore}
 use Rattle.raft_log.specs.Extend.{extendAnswer, extendStore}
 use Rattle.raft_log.specs.Commit.{withApplied, withPersisted, commitTo, appliedTo, maybeCommit, maybePersist}
 use Rattle.raft_log.specs.Settle.{settleAnswer, settleStore}
@@ -213,13 +213,13 @@ module _ (l : Log) (settled pending : List ℕ) (idx term commit : ℕ) (run : L
   abbrev pub tableWith : Bool → ℕ → Log → Appended × List ℕ
   tableWith isAnother held after =
       stored pending idx run
-      (refuseIf (broken l settled pending) brokenState
-      (refuseIf (misnumbered run idx) misnumberedRun
-      (refuseIf (zeroTermIn run) zeroTerm
-      (refuseIf (outside l idx term) outsideLog
-      (refuseIf isAnother mismatch
-      (refuseIf (cuts l idx (runCount run) held) cutsCommitted
-      (refuseIf (overfull after pending) noRoom
+      (cond (broken l settled pending) (appended.Refused brokenState)
+      (cond (misnumbered run idx) (appended.Refused misnumberedRun)
+      (cond (zeroTermIn run) (appended.Refused zeroTerm)
+      (cond (outside l idx term) (appended.Refused outsideLog)
+      (cond isAnother (appended.Refused mismatch)
+      (cond (cuts l idx (runCount run) held) (appended.Refused cutsCommitted)
+      (cond (overfull after pending) (appended.Refused noRoom)
       (accepted idx (runCount run) held after))))))))
 
   -- The promise's own three: the last by how many records are held.

@@ -3,7 +3,7 @@
 use Prim.Native.Nat.{ℕ, suc, _+_, _-_, _/_, min}
 use mathlib.Core.Path.{_≡_}
 use mathlib.Core.Logic.{_≢_}
-use mathlib.Core.Bool.{true, false}
+use mathlib.Core.Bool.{true, false, cond}
 use mathlib.Core.List.{List, [], _∷_, _++_}
 use lib.ListN.{length, replicate}
 use lib.Dec.{leb}
@@ -15,7 +15,7 @@ use Rattle.rules.specs.Majority.{kth-largest, falling}
 use Rattle.quorum.specs.Limits.{voterLimit, rowLimit}
 use Rattle.quorum.specs.Rows.{nobody, ackNumber, voteNumber, rowsCheck, valueFor, gathered, plainCheck}
 use Rattle.quorum.specs.Voters.{votersCheck, setOf, noVoters, made}
-use Rattle.quorum.specs.Votes.{pickResult, isYes, isMissing, resultOf, jointResult}
+use Rattle.quorum.specs.Votes.{isYes, isMissing, resultOf, jointResult}
 use Rattle.quorum.specs.Half.{halfIndex, joined, numbersResult}
 use Rattle.quorum.specs.Majority.{indexUnless, resultUnless, acksOf, votesOf, committedIndex, voteResult, plainIndex, plainResult}
 use Rattle.quorum.specs.Joint.{oneSet, configCheck, jointIndex, jointVerdict, plainJointIndex, plainJointVerdict, singleton, containsOf, listed, idsAnswer}
@@ -274,8 +274,8 @@ halfIsEnough (a ∷ acks) = record { index = kth-largest (length (a ∷ acks) / 
 -- And for the vote: Won if yes reaches n/2, else Pending if yes plus missing reaches it, else Lost.
 abbrev pub halfWins : List Vote → VoteResult
 halfWins votes =
-    pickResult (leb (length votes / 2) (count isYes votes)) result.Won
-    (pickResult (leb (length votes / 2) (count isYes votes + count isMissing votes)) result.Pending result.Lost)
+    cond (leb (length votes / 2) (count isYes votes)) result.Won
+    (cond (leb (length votes / 2) (count isYes votes + count isMissing votes)) result.Pending result.Lost)
 
 -- None of them keeps the promise.
 pub record WrongEnginesQuorum : Type 0 where

@@ -2,7 +2,6 @@ pub mod IdLaws
 pub mod Checks
 pub mod Padded
 pub mod Sizes
-pub mod Copying
 pub mod Sinking
 pub mod Sorting
 pub mod Listing

@@ -30,9 +30,13 @@ abbrev pub resultUnless : Check → VoteResult → Verdict
 resultUnless check.Fine r = verdict.Stands r
 resultUnless (check.Refused n) r = verdict.Refused n
 
+-- The paper, figure 2, "matchIndex[]": "for each server, index of highest log entry known to be replicated on server (initialized to 0 ..)". It is what the lent rows say of an id: 0 where it has no row, or has acknowledged nothing.
+abbrev pub matchIndex : List Peer → ℕ → ℕ
+matchIndex peers id = ackNumber (rowOf peers id .ack)
+
 -- What each voter of a set has acknowledged, by the lent rows.
 abbrev pub acksOf : List Peer → Voters → List ℕ
-acksOf peers v = map (λ id. ackNumber (rowOf peers id .ack)) (votersOf v)
+acksOf peers v = map (matchIndex peers) (votersOf v)
 
 -- How each voter of a set has voted, by the lent rows.
 abbrev pub votesOf : List Peer → Voters → List Vote

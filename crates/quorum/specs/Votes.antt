@@ -1,7 +1,7 @@
 -- How a vote stands. A reader must know: the rule is `Sure` and `Hopeless`, over every way in which the missing votes can still come in; `resultOf` computes it, as document 01 words it.
 -- That the second is the first is proved in the crate quorum_laws.
 use Prim.Native.Nat.{ℕ, _+_, _≤_, _<_}
-use mathlib.Core.Bool.{Bool, true, false}
+use mathlib.Core.Bool.{Bool, true, false, cond}
 use mathlib.Core.List.{List, [], _∷_}
 use lib.ListN.{length}
 use lib.Dec.{eqb, leb}
@@ -12,18 +12,13 @@ use Rattle.quorum.specs.declared.VoteResult.the-variants as result
 use Rattle.quorum.specs.declared.rows.Vote.{Vote}
 use Rattle.quorum.specs.declared.rows.Vote.the-variants as vote
 
--- The first where the test says yes, else the second.
-abbrev pub pickResult : Bool → VoteResult → VoteResult → VoteResult
-pickResult true a b = a
-pickResult false a b = b
-
 -- THE COMPUTATION, from how many voters there are, how many said yes and how many are missing.
 -- 01, Majority: "an empty set is Won; otherwise Won if yes reaches the quorum, else Pending if yes plus missing reaches it, else Lost."
 abbrev pub tally : ℕ → ℕ → ℕ → VoteResult
 tally voters said missing =
-    pickResult (eqb voters 0) result.Won
-    (pickResult (leb (quorum voters) said) result.Won
-    (pickResult (leb (quorum voters) (said + missing)) result.Pending result.Lost))
+    cond (eqb voters 0) result.Won
+    (cond (leb (quorum voters) said) result.Won
+    (cond (leb (quorum voters) (said + missing)) result.Pending result.Lost))
 
 -- The vote is a yes.
 abbrev pub isYes : Vote → Bool

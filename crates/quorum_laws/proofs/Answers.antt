@@ -11,14 +11,15 @@ use Rattle.units.specs.Refusals.{brokenSet, bothChecks}
 use Rattle.units.specs.declared.Index.{Index}
 use Rattle.units.specs.declared.Check.{Check}
 use Rattle.units.specs.declared.Check.the-variants as check
+use Rattle.units.proofs.Never.{never}
 use Rattle.rules.specs.Majority.{Commits}
 use Rattle.rules.proofs.Majority.{committed-commits, commits-committed}
-use Rattle.quorum.specs.Rows.{nobody, idOf, ackNumber, rowOf, rowsCheck}
+use Rattle.quorum.specs.Rows.{nobody, idOf, ackNumber, rowsCheck}
 use Rattle.quorum.specs.Ids.{position}
 use Rattle.quorum.specs.Voters.{votersOf, votersCheck}
 use Rattle.quorum.specs.Votes.{resultOf, jointResult}
 use Rattle.quorum.specs.Half.{halfIndex, joined}
-use Rattle.quorum.specs.Majority.{indexUnless, resultUnless, acksOf, votesOf, committedIndex, voteResult}
+use Rattle.quorum.specs.Majority.{indexUnless, resultUnless, acksOf, votesOf, committedIndex, voteResult, matchIndex}
 use Rattle.quorum.specs.Joint.{oneSet, configCheck, jointIndex, jointVerdict, isUnless, singleton, containsOf, bothIds, listedUnless, idsAnswer}
 use Rattle.quorum.specs.declared.Committed.the-variants as answer
 use Rattle.quorum.specs.declared.Verdict.the-variants as verdict
@@ -55,13 +56,13 @@ index-refuses : (h : Half) (k : Check) → OnlyTwelve k → (n : ℕ) → (index
 index-refuses h = refused-by-twelve (λ k. indexUnless k h) answer.Refused (λ m. refl) (λ m n e. cc) else-not
   where
     else-not : (n : ℕ) → ¬ (indexUnless check.Fine h ≡ answer.Refused n)
-    else-not n e = let z : _≡_ {A = ℕ} 0 1 = cc in omega arith
+    else-not n e = never cc
 
 result-refuses : (r : VoteResult) (k : Check) → OnlyTwelve k → (n : ℕ) → (resultUnless k r ≡ verdict.Refused n) ↔ ((¬ (k ≡ check.Fine)) × (n ≡ brokenSet))
 result-refuses r = refused-by-twelve (λ k. resultUnless k r) verdict.Refused (λ m. refl) (λ m n e. cc) else-not
   where
     else-not : (n : ℕ) → ¬ (resultUnless check.Fine r ≡ verdict.Refused n)
-    else-not n e = let z : _≡_ {A = ℕ} 0 1 = cc in omega arith
+    else-not n e = never cc
 
 -- What is read of the voters is empty where nobody is a voter.
 module _ {A : Type 0} (f : ℕ → A) where
@@ -76,7 +77,7 @@ module _ {A : Type 0} (f : ℕ → A) where
 -- ONE SET. Where it has voters, the index is the largest that a majority of them has reached; where it has none, it is the largest word.
 some-index : (acks : List ℕ) (n : ℕ) → ((halfIndex acks .index ≡ n) × (halfIndex acks .free ≡ false)) ↔ ((0 < length acks) × Commits acks n)
 unfolding halfIndex
-some-index [] n = ((λ e. let z : _≡_ {A = ℕ} 0 1 = cc (e .1) in let w : ⊥ = omega arith in absurd w), (λ e. let w : ⊥ = omega (arith, e .0) in absurd w))
+some-index [] n = ((λ e. never (cc (e .1))), (λ e. let w : ⊥ = omega (arith, e .0) in absurd w))
 some-index (a ∷ acks) n = ((λ e. (omega arith, rw (sym (e .0)) (committed-commits (a ∷ acks) (omega arith)))), (λ e. (sym (commits-committed (a ∷ acks) n (e .0) (e .1)), refl)))
 
 no-index : (acks : List ℕ) (n : ℕ) → ((halfIndex acks .index ≡ n) × (halfIndex acks .free ≡ true)) ↔ ((acks ≡ []) × (n ≡ wordMax))
@@ -123,7 +124,7 @@ row-word [] w at = omega arith
 row-word (p ∷ peers) w zero = w .0
 row-word (p ∷ peers) w (suc at) = row-word peers (w .1) at
 
-pub read-words : (peers : List Peer) → WordRows peers → (ids : List ℕ) → Words (map (λ id. ackNumber (rowOf peers id .ack)) ids)
+pub read-words : (peers : List Peer) → WordRows peers → (ids : List ℕ) → Words (map (matchIndex peers) ids)
 read-words peers w [] = tt
 read-words peers w (id ∷ ids) = (row-word peers w (position id (map idOf peers)), read-words peers w ids)
 
@@ -220,13 +221,13 @@ is-refuses : (b : Bool) (k : Check) → OnlyTwelve k → (n : ℕ) → (isUnless
 is-refuses b = refused-by-twelve (λ k. isUnless k b) is.Refused (λ m. refl) (λ m n e. cc) else-not
   where
     else-not : (n : ℕ) → ¬ (isUnless check.Fine b ≡ is.Refused n)
-    else-not n e = let z : _≡_ {A = ℕ} 0 1 = cc in omega arith
+    else-not n e = never cc
 
 list-refuses : (ids : List ℕ) (k : Check) → OnlyTwelve k → (n : ℕ) → (listedUnless k ids .check ≡ check.Refused n) ↔ ((¬ (k ≡ check.Fine)) × (n ≡ brokenSet))
 list-refuses ids = refused-by-twelve (λ k. listedUnless k ids .check) check.Refused (λ m. refl) (λ m n e. cc) else-not
   where
     else-not : (n : ℕ) → ¬ (listedUnless check.Fine ids .check ≡ check.Refused n)
-    else-not n e = let z : _≡_ {A = ℕ} 0 1 = cc in omega arith
+    else-not n e = never cc
 
 module _ (c : JointConfig) where
   pub singleton-refused : (n : ℕ) → (singleton c ≡ is.Refused n) ↔ ((¬ (configCheck c ≡ check.Fine)) × (n ≡ brokenSet))

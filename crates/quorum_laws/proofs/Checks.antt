@@ -4,12 +4,12 @@ use mathlib.Core.Path.{_≡_, refl, sym, ap, _∙_}
 use mathlib.Core.Bool.{Bool, true, false, _&&_, and-eq-true-iff}
 use mathlib.Core.List.{List, map}
 use mathlib.Core.Logic.{_↔_, _⊎_, inl, inr}
-use native.Mathlib.Omega.{arith}
 use lib.ListN.{length}
 use lib.Dec.{leb}
 use Rattle.units.specs.Refusals.{brokenSet, bothChecks}
 use Rattle.units.specs.declared.Check.{Check}
 use Rattle.units.specs.declared.Check.the-variants as check
+use Rattle.units.proofs.Never.{never}
 use Rattle.quorum.proofs.Checks.{fine-true}
 use Rattle.quorum.specs.Ids.{distinct, fineIf}
 use Rattle.quorum.specs.Limits.{voterLimit, rowLimit}
@@ -52,7 +52,7 @@ pub with-rows-twelve : (k : Check) (peers : List Peer) → OnlyTwelve k → Only
 with-rows-twelve k peers h = only-both k (rowsCheck peers) h (only-if (leb (length peers) rowLimit && distinct (map idOf peers)))
 
 refused-not-fine : {k : Check} → k ≡ check.Refused brokenSet → ¬ (k ≡ check.Fine)
-refused-not-fine e f = let z : _≡_ {A = ℕ} 0 1 = cc in omega arith
+refused-not-fine e f = never cc
 
 -- An answer that hands a refusal on refuses exactly if the check is not fine, and then by 12. Said once, for every type of answer.
 module _ {A : Type 0} (answer : Check → A) (refused : ℕ → A)

@@ -11,6 +11,7 @@ use lib.Dec.{eqb, leb}
 use borrow.Author.Tests.{eqb-true, eq-eqb}
 use Rattle.units.specs.declared.Check.{Check}
 use Rattle.units.specs.declared.Check.the-variants as check
+use Rattle.units.proofs.Never.{never}
 use Rattle.rules.specs.Majority.{reached, falling}
 use Rattle.rules.proofs.Count.{le-or-gt, count-cons, one-at-least}
 use Rattle.rules.proofs.Majority.{reached-hit, Capped, Falls, falls-falling, length-falling}
@@ -58,7 +59,7 @@ module _ (id : ℕ) where
 
 -- Turned round, it rises.
 reached-has : (id : ℕ) (xs : List ℕ) → has id xs ≡ true → 0 < reached id xs
-reached-has id [] e = let z : _≡_ {A = ℕ} 0 1 = cc (has-none id) in omega arith
+reached-has id [] e = never (cc (has-none id))
 reached-has id (x ∷ xs) e =
     ⊎-elim (λ h. omega (arith, reached-hit id x xs (omega arith))) (λ h. omega (arith, reached-has id xs h, count-cons (leb id) x xs, one-at-least (leb id x) (reached id xs))) (head-or-behind id x xs e)
 
@@ -69,13 +70,13 @@ rises-last : (x : ℕ) (xs : List ℕ) → Rising xs → ((y : ℕ) → has y xs
 rises-last x [] r h = ((λ y e. absurd (nowhere y e)), tt)
   where
     nowhere : (y : ℕ) → has y [] ≡ true → ⊥
-    nowhere y e = let z : _≡_ {A = ℕ} 0 1 = cc (has-none y) in omega arith
+    nowhere y e = never (cc (has-none y))
 rises-last x (y ∷ ys) r h = (above, rises-last x ys (r .1) (λ z e. h z (has-behind z y ys e)))
   where
     above : (z : ℕ) → has z (ys ++ (x ∷ [])) ≡ true → y < z
     above z e =
         ⊎-elim (λ g. r .0 z g)
-        (λ g. ⊎-elim (λ q. omega (arith, h y (has-head y ys))) (λ q. let k : _≡_ {A = ℕ} 0 1 = cc (has-none z) in omega arith) (head-or-behind z x [] g))
+        (λ g. ⊎-elim (λ q. omega (arith, h y (has-head y ys))) (λ q. never (cc (has-none z))) (head-or-behind z x [] g))
         (either (has z ys) (has z (x ∷ [])) (sym (has-append z ys (x ∷ [])) ∙ e))
 
 rises-one-more : (x : ℕ) (ids : List ℕ) (b : Bool) → has x ids ≡ b → Rising ids → ((y : ℕ) → has y ids ≡ true → y ≤ x) → Rising (one-more-unless b ids x)
@@ -83,7 +84,7 @@ rises-one-more x ids true e r h = r
 rises-one-more x ids false e r h = rises-last x ids r (λ y g. other y g (le-or-gt x y))
   where
     other : (y : ℕ) → has y ids ≡ true → (x ≤ y) ⊎ (y < x) → y < x
-    other y g (inl l) = let q : y ≡ x = le-antisymm (h y g) l in let z : _≡_ {A = ℕ} 0 1 = cc in omega arith
+    other y g (inl l) = let q : y ≡ x = le-antisymm (h y g) l in never cc
     other y g (inr l) = l
 
 pub rising-rises : (xs : List ℕ) → Falls xs → Rising (rising xs)

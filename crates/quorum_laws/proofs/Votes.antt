@@ -1,7 +1,7 @@
 -- A vote of somebody is won exactly if it is sure, lost exactly if it is hopeless: the fewest and the most yes that it can end with are the two sums that the computation compares with the quorum.
-use Prim.Native.Nat.{ℕ, suc, _+_, _≤_, _<_}
+use Prim.Native.Nat.{suc, _+_, _≤_, _<_}
 use mathlib.Core.Path.{_≡_, refl, sym, ap, _∙_}
-use mathlib.Core.Bool.{Bool, true, false}
+use mathlib.Core.Bool.{Bool, true, false, cond}
 use mathlib.Core.List.{List, [], _∷_}
 use mathlib.Core.Logic.{_↔_, _⊎_, inl, inr, ⊎-elim}
 use native.Mathlib.Omega.{arith}
@@ -11,12 +11,13 @@ use borrow.Author.Tests.{le-leb, lt-leb, ne-eqb}
 use Rattle.rules.specs.Count.{count, Reordered}
 use Rattle.rules.specs.Majority.{quorum}
 use Rattle.rules.proofs.Count.{le-or-gt, length-reordered, count-reordered}
-use Rattle.quorum.specs.Votes.{pickResult, isYes, isMissing, resultOf, Ends, none, yea, nay, free, yesIn, Sure, Hopeless, jointResult}
+use Rattle.quorum.specs.Votes.{isYes, isMissing, resultOf, Ends, none, yea, nay, free, yesIn, Sure, Hopeless, jointResult}
 use Rattle.quorum.specs.declared.VoteResult.{VoteResult}
 use Rattle.quorum.specs.declared.VoteResult.the-variants as result
 use Rattle.quorum.specs.declared.rows.Vote.{Vote}
 use Rattle.quorum.specs.declared.rows.Vote.the-variants as vote
 use Rattle.quorum_laws.specs.JointRule.{Wins, Loses}
+use Rattle.units.proofs.Never.{never}
 
 -- However it ends, yes has at least those that said so, and at most those and the missing.
 fewest : {votes : List Vote} {ends : List Bool} → Ends votes ends → count isYes votes ≤ yesIn ends
@@ -64,13 +65,13 @@ all-yes (vote.Yes ∷ votes) = omega (arith, all-yes votes)
 all-yes (vote.No ∷ votes) = all-yes votes
 
 -- What the computation leaves open once one of its two tests is known.
-not-won : (b : Bool) → pickResult b result.Pending result.Lost ≡ result.Won → ⊥
-not-won true e = let z : _≡_ {A = ℕ} 0 1 = cc in omega arith
-not-won false e = let z : _≡_ {A = ℕ} 0 1 = cc in omega arith
+not-won : (b : Bool) → cond b result.Pending result.Lost ≡ result.Won → ⊥
+not-won true e = never cc
+not-won false e = never cc
 
-not-lost : (b : Bool) → pickResult b result.Won result.Pending ≡ result.Lost → ⊥
-not-lost true e = let z : _≡_ {A = ℕ} 0 1 = cc in omega arith
-not-lost false e = let z : _≡_ {A = ℕ} 0 1 = cc in omega arith
+not-lost : (b : Bool) → cond b result.Won result.Pending ≡ result.Lost → ⊥
+not-lost true e = never cc
+not-lost false e = never cc
 
 -- Whatever won and lost amount to, pending is neither.
 module _ {W L : Type 0} where
@@ -83,19 +84,19 @@ module _ {W L : Type 0} where
   pending-if-neither r won lost = ((λ e. ((λ w. not-both (won .1 w) e), (λ l. not-both-lost (lost .1 l) e))), neither r (won .0) (lost .0))
     where
       not-both : r ≡ result.Won → r ≡ result.Pending → ⊥
-      not-both a b = let z : _≡_ {A = ℕ} 0 1 = cc in omega arith
+      not-both a b = never cc
 
       not-both-lost : r ≡ result.Lost → r ≡ result.Pending → ⊥
-      not-both-lost a b = let z : _≡_ {A = ℕ} 0 1 = cc in omega arith
+      not-both-lost a b = never cc
 
 module _ (votes : List Vote) (some : 0 < length votes) where
   somebody : eqb (length votes) 0 ≡ false
   somebody = ne-eqb (length votes) 0 (λ e. omega arith)
 
-  below : count isYes votes < quorum (length votes) → resultOf votes ≡ pickResult (leb (quorum (length votes)) (count isYes votes + count isMissing votes)) result.Pending result.Lost
+  below : count isYes votes < quorum (length votes) → resultOf votes ≡ cond (leb (quorum (length votes)) (count isYes votes + count isMissing votes)) result.Pending result.Lost
   below h = rw (somebody, lt-leb (quorum (length votes)) (count isYes votes) h)
 
-  within-reach : quorum (length votes) ≤ count isYes votes + count isMissing votes → resultOf votes ≡ pickResult (leb (quorum (length votes)) (count isYes votes)) result.Won result.Pending
+  within-reach : quorum (length votes) ≤ count isYes votes + count isMissing votes → resultOf votes ≡ cond (leb (quorum (length votes)) (count isYes votes)) result.Won result.Pending
   within-reach h = rw (somebody, le-leb (quorum (length votes)) (count isYes votes + count isMissing votes) h)
 
   sure-won : Sure votes → resultOf votes ≡ result.Won
@@ -140,7 +141,7 @@ half-won (v ∷ votes) =
     ((λ won some. e .0 won), (λ w. e .1 (w (omega arith))))
 
 pub half-lost : (votes : List Vote) → (resultOf votes ≡ result.Lost) ↔ Loses votes
-half-lost [] = ((λ e. let z : _≡_ {A = ℕ} 0 1 = cc in let w : ⊥ = omega arith in absurd w), (λ l. let w : ⊥ = omega (arith, l .0) in absurd w))
+half-lost [] = ((λ e. never cc), (λ l. let w : ⊥ = omega (arith, l .0) in absurd w))
 half-lost (v ∷ votes) =
     let e : (resultOf (v ∷ votes) ≡ result.Lost) ↔ Hopeless (v ∷ votes) = lost-exactly-if-hopeless (v ∷ votes) (omega arith) in
     ((λ lost. (omega arith, e .0 lost)), (λ l. e .1 (l .1)))

@@ -1,6 +1,6 @@
 -- The answer of `maybe_append`: one law for each answer, on the closed functions of specs/Append.antt; and what an answer with a conflict says to the copy.
-use mathlib.Core.Path.{_≡_, refl, sym, ap, _∙_}
-use mathlib.Core.Bool.{Bool, true, false}
+use mathlib.Core.Path.{_≡_, sym, ap, _∙_}
+use mathlib.Core.Bool.{true, false}
 use mathlib.Core.List.{List}
 use mathlib.Core.Logic.{⊎-elim}
 use Prim.Native.Nat.{ℕ, _+_, _-_, _≤_, _<_, min, max}
@@ -8,7 +8,7 @@ use native.Mathlib.Omega.{arith}
 use lib.Dec.{ltb}
 use borrow.Author.Tests.{eq-eqb, ne-eqb, le-leb, lt-leb, lt-ltb, le-ltb, ltb-false, not-false}
 use Rattle.units.specs.Units.{indexLimit, indexOf}
-use Rattle.units.specs.Refusals.{brokenState, misnumberedRun, zeroTerm, outsideLog, mismatch, cutsCommitted, noRoom}
+use Rattle.units.specs.Refusals.{brokenState, outsideLog, mismatch, cutsCommitted, noRoom}
 use Rattle.units.specs.declared.Index.{Index}
 use Rattle.raft_log.specs.declared.Log.{Log}
 use Rattle.raft_log.specs.declared.Appended.{Appended}
@@ -17,10 +17,12 @@ use Rattle.raft_log.specs.declared.run.Checked.the-variants.{Records, Re
 use Rattle.raft_log.specs.Words.{room, runCount, firstFrom, putRun}
 use Rattle.raft_log.specs.State.{Good, broken, termAt, lastOf}
 use Rattle.raft_log.specs.Run.{misnumbered, zeroTermIn, checkRun}
-use Rattle.raft_log.specs.Append.{withPending, withCommitted, afterMessage, outside, mismatched, cuts, overfull, differs, conflictOf, refuseIf, accepted, decide, matchRun, appendAnswer, appendStore}
+use Rattle.raft_log.specs.Append.{withPending, withCommitted, afterMessage, outside, mismatched, cuts, overfull, differs, conflictOf, accepted, decide, matchRun, appendAnswer, appendStore}
 use Rattle.raft_log.proofs.States.{not-both, term-below, term-beyond}
 use Rattle.raft_log.proofs.Searching.{same-not, other-not, below-or-not}
 use Rattle.raft_log.proofs.Runs.{run-passed, run-refused, numbered-rises}
+use Rattle.units.proofs.Cond.{past}
+use Rattle.units.proofs.Never.{never}
 
 -- ---- the decision
 
@@ -129,21 +131,15 @@ pub record Cut (places idx n : ℕ) (c m : Index) (after : Log) : Type 0 where
   pub fits : m .0 + 1 - after .offset .0 ≤ places
   pub limited : idx + n ≤ indexLimit
 
-no-done : {r : ℕ} {c m : Index} {l : Log} → Refused r ≡ Done c m l → ⊥
-no-done h =
-    let z : _≡_ {A = ℕ} 0 1 = cc in
-    omega arith
-
-inv : (b : Bool) (r : ℕ) (a : Appended) {c m : Index} {l : Log} → refuseIf b r a ≡ Done c m l → (b ≡ false) × (a ≡ Done c m l)
-inv true r a h = absurd (no-done h)
-inv false r a h = (refl, h)
+pub no-done : {r : ℕ} {c m : Index} {l : Log} → Refused r ≡ Done c m l → ⊥
+no-done h = never cc
 
 decide-inv : (l : Log) (pending : List ℕ) (idx commit n k : ℕ) {c m : Index} {after : Log}
     → idx + n ≤ indexLimit → decide l pending idx commit n k ≡ Done c m after → (c .0 ≡ 0 → ⊥) → Cut (room pending) idx n c m after
 unfolding decide
 decide-inv l pending idx commit n k {c} {m} {after} limit h z =
-    let i = inv (cuts l idx n k) cutsCommitted _ h in
-    let j = inv (overfull (afterMessage l idx n k commit) pending) noRoom _ (i .1) in
+    let i = past (cuts l idx n k) no-done h in
+    let j = past (overfull (afterMessage l idx n k commit) pending) no-done (i .1) in
     let room-left : overfull (afterMessage l idx n k commit) pending ≡ false = j .0 in
     let answer : accepted idx n k (afterMessage l idx n k commit) ≡ Done c m after = j .1 in
     let conflict : indexOf (conflictOf idx n k) ≡ c = cc in
@@ -167,9 +163,9 @@ pub answer-cut : (l : Log) (settled pending : List ℕ) (idx term commit : ℕ) 
     → Cut (room pending) idx (runCount run) c m after
 unfolding appendAnswer matchRun
 answer-cut l settled pending idx term commit run h z =
-    let numbers = inv (misnumbered run idx) misnumberedRun _ (inv (broken l settled pending) brokenState _ h .1) in
-    let terms = inv (zeroTermIn run) zeroTerm _ (numbers .1) in
-    let before = inv (mismatched l settled pending idx term) mismatch _ (inv (outside l idx term) outsideLog _ (terms .1) .1) in
+    let numbers = past (misnumbered run idx) no-done (past (broken l settled pending) no-done h .1) in
+    let terms = past (zeroTermIn run) no-done (numbers .1) in
+    let before = past (mismatched l settled pending idx term) no-done (past (outside l idx term) no-done (terms .1) .1) in
     decide-inv l pending idx commit (runCount run) _ (numbered-rises run idx (not-false _ (numbers .0)) .limited) (before .1) z
 
 -- ---- the store

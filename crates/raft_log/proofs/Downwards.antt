@@ -1,6 +1,6 @@
 -- A search downwards: what its loop keeps, and the answers of `find_conflict_by_term` that rest on it.
 use mathlib.Core.Path.{_≡_, refl, sym, ap, _∙_}
-use mathlib.Core.Bool.{Bool, true, false}
+use mathlib.Core.Bool.{Bool, true, false, cond}
 use mathlib.Core.List.{List}
 use Prim.Native.Nat.{ℕ, zero, suc, _-_, _≤_, _<_}
 use native.Mathlib.Omega.{arith}
@@ -8,7 +8,6 @@ use borrow.Author.Tests.{le-leb, lt-leb, lt-ltb, le-ltb}
 use Rattle.units.specs.Units.{indexOf, termOf}
 use Rattle.raft_log.specs.declared.Log.{Log}
 use Rattle.raft_log.specs.declared.ByTerm.the-variants as byterm
-use Rattle.raft_log.specs.Words.{pick}
 use Rattle.raft_log.specs.State.{termAt, lastOf}
 use Rattle.raft_log.specs.Look.{atMost, lastDown, byTermIn}
 
@@ -19,7 +18,7 @@ pub record Down (p : ℕ → Bool) (i j : ℕ) : Type 0 where
 pub down-start : (p : ℕ → Bool) (i : ℕ) → Down p i i
 down-start p i = record { same = refl }
 
-one-step : (p : ℕ → Bool) (j : ℕ) → 0 < j → lastDown p j ≡ pick (p j) j (lastDown p (j - 1))
+one-step : (p : ℕ → Bool) (j : ℕ) → 0 < j → lastDown p j ≡ cond (p j) j (lastDown p (j - 1))
 unfolding lastDown
 one-step p zero h = absurd (omega arith)
 one-step p (suc j) h =

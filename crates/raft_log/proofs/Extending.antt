@@ -1,6 +1,6 @@
 -- The answer of `append`: one law for each answer, on the closed functions of specs/Extend.antt; and what an answer with records says to the copy.
-use mathlib.Core.Path.{_≡_, refl, sym, ap}
-use mathlib.Core.Bool.{Bool, true, false}
+use mathlib.Core.Path.{_≡_, sym, ap}
+use mathlib.Core.Bool.{true, false}
 use mathlib.Core.List.{List}
 use mathlib.Core.Logic.{⊎-elim}
 use Prim.Native.Nat.{ℕ, _+_, _-_, _≤_, _<_, min}
@@ -8,7 +8,7 @@ use native.Mathlib.Omega.{arith}
 use lib.ListN.{length}
 use borrow.Author.Tests.{eq-eqb, ne-eqb, le-leb, lt-leb, lt-ltb, le-ltb, ltb-false}
 use Rattle.units.specs.Units.{indexOf}
-use Rattle.units.specs.Refusals.{brokenState, misnumberedRun, zeroTerm, cutsCommitted, noRoom, outOfRange}
+use Rattle.units.specs.Refusals.{brokenState, misnumberedRun, cutsCommitted, noRoom, outOfRange}
 use Rattle.units.specs.declared.Index.{Index}
 use Rattle.raft_log.specs.declared.Log.{Log}
 use Rattle.raft_log.specs.declared.Extended.{Extended}
@@ -18,8 +18,10 @@ use Rattle.raft_log.specs.Words.{room, runCount, putRun, firstFrom}
 use Rattle.raft_log.specs.State.{lastOf, broken}
 use Rattle.raft_log.specs.Run.{termsSet, zeroTermIn, checkRun}
 use Rattle.raft_log.specs.Append.{withPending, overfull}
-use Rattle.raft_log.specs.Extend.{firstOf, extended, badRun, startsCommitted, leavesGap, startsPersisted, refuseIf, extendFrom, extendAnswer, extendStore}
+use Rattle.raft_log.specs.Extend.{firstOf, extended, badRun, startsCommitted, leavesGap, startsPersisted, extendFrom, extendAnswer, extendStore}
 use Rattle.raft_log.proofs.Runs.{run-passed, run-refused}
+use Rattle.units.proofs.Cond.{past}
+use Rattle.units.proofs.Never.{never}
 
 -- ---- a run that is not empty
 
@@ -96,22 +98,16 @@ pub record Extends (places first n : ℕ) (after : Log) : Type 0 where
   pub kept : after .offset .0 ≤ first
   pub fits : first + n - after .offset .0 ≤ places
 
-no-last : {r : ℕ} {m : Index} {l : Log} → Refused r ≡ Last m l → ⊥
-no-last h =
-    let z : _≡_ {A = ℕ} 0 1 = cc in
-    omega arith
-
-inv : (b : Bool) (r : ℕ) (a : Extended) {m : Index} {l : Log} → refuseIf b r a ≡ Last m l → (b ≡ false) × (a ≡ Last m l)
-inv true r a h = absurd (no-last h)
-inv false r a h = (refl, h)
+pub no-last : {r : ℕ} {m : Index} {l : Log} → Refused r ≡ Last m l → ⊥
+no-last h = never cc
 
 from-inv : (l : Log) (pending : List ℕ) (first n : ℕ) {m : Index} {after : Log} → extendFrom l pending first n ≡ Last m after
     → Extends (room pending) first n after
 unfolding extendFrom
 from-inv l pending first n {m} {after} h =
-    let gap = inv (leavesGap l first) outOfRange _ (inv (startsCommitted l first) cutsCommitted _ h .1) in
-    let full = inv (overfull (extended l first n) pending) noRoom _ (gap .1) in
-    let answer : Last (indexOf (first + n - 1)) (extended l first n) ≡ Last m after = inv (startsPersisted l first) outOfRange _ (full .1) .1 in
+    let gap = past (leavesGap l first) no-last (past (startsCommitted l first) no-last h .1) in
+    let full = past (overfull (extended l first n) pending) no-last (gap .1) in
+    let answer : Last (indexOf (first + n - 1)) (extended l first n) ≡ Last m after = past (startsPersisted l first) no-last (full .1) .1 in
     let places : first + n - 1 + 1 - min (l .offset .0) first ≤ room pending = ltb-false _ _ (full .0) in
     let same : extended l first n ≡ after = cc in
     let e : min (l .offset .0) first ≡ after .offset .0 = ap (λ (x : Log). x .offset .0) same in
@@ -121,8 +117,8 @@ pub extend-cut : (l : Log) (settled pending run : List ℕ) {m : Index} {after :
     → (length run ≡ 0 → ⊥) → Extends (room pending) (firstOf run) (runCount run) after
 unfolding extendAnswer
 extend-cut l settled pending run h some =
-    let numbers = inv (badRun run) misnumberedRun _ (inv (broken l settled pending) brokenState _ h .1) in
-    let terms = inv (zeroTermIn run) zeroTerm _ (numbers .1) in
+    let numbers = past (badRun run) no-last (past (broken l settled pending) no-last h .1) in
+    let terms = past (zeroTermIn run) no-last (numbers .1) in
     from-inv l pending (firstOf run) (runCount run) (simp (ne-eqb _ _ some) at (terms .1))
 
 -- ---- the store

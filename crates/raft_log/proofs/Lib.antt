@@ -9,6 +9,5 @@ pub mod Looks
 pub mod Commits
 pub mod Downwards
 pub mod Slices
-pub mod Copying
 pub mod Settling
 pub mod Setups

@@ -1,6 +1,6 @@
 -- The check of a run: what its one pass keeps, and what its answer says of the two tests, each with facts in place of the tests.
 use mathlib.Core.Path.{_≡_, refl, sym, ap, subst}
-use mathlib.Core.Bool.{Bool, true, false, not}
+use mathlib.Core.Bool.{Bool, true, false, not, cond}
 use mathlib.Core.List.{List}
 use mathlib.Core.Logic.{_⊎_, inl, inr}
 use Prim.Native.Nat.{ℕ, _+_, _%_, _≤_, _<_}
@@ -10,10 +10,11 @@ use lib.ListN.{length}
 use borrow.Author.Tests.{eq-eqb, ne-eqb, le-leb, eqb-true, leb-true}
 use Rattle.units.specs.Units.{indexLimit}
 use Rattle.units.specs.Refusals.{misnumberedRun, zeroTerm}
+use Rattle.units.proofs.Never.{never}
 use Rattle.raft_log.specs.declared.run.Checked.{Checked}
 use Rattle.raft_log.specs.declared.run.Checked.the-variants.{Records, Refused}
-use Rattle.raft_log.specs.Words.{runWords, runCount, runIndex, runTerm, firstFrom, none, pick}
-use Rattle.raft_log.specs.Run.{misplaced, zeroAt, numbered, termsSet, misnumbered, zeroTermIn, scanRun, checkRun, orRefuse}
+use Rattle.raft_log.specs.Words.{runWords, runCount, runIndex, runTerm, firstFrom, none}
+use Rattle.raft_log.specs.Run.{misplaced, zeroAt, numbered, termsSet, misnumbered, zeroTermIn, scanRun, checkRun}
 use Rattle.raft_log.proofs.States.{split, refuted}
 use Rattle.raft_log.proofs.Searching.{Seek, seek-start, seek-next, seek-hit, seek-end, same-not}
 
@@ -24,7 +25,7 @@ pub data Marks (p : ℕ → Bool) (n k : ℕ) : ℕ → Type 0 where
   clean : Seek p n k → Marks p n k 0
   seen : (firstFrom p 0 n ≡ n → ⊥) → Marks p n k zeroTerm
 
-marks-next : {p : ℕ → Bool} {n k mark : ℕ} (b : Bool) → Marks p n k mark → k < n → p k ≡ b → Marks p n (k + 1) (pick b zeroTerm mark)
+marks-next : {p : ℕ → Bool} {n k mark : ℕ} (b : Bool) → Marks p n k mark → k < n → p k ≡ b → Marks p n (k + 1) (cond b zeroTerm mark)
 marks-next true (clean s) h e =
     seen (λ q.
     let hit = seek-hit s h e in
@@ -33,7 +34,7 @@ marks-next false (clean s) h e = clean (seek-next s h e)
 marks-next true (seen x) h e = seen x
 marks-next false (seen x) h e = seen x
 
-marks-end : {p : ℕ → Bool} {n k mark : ℕ} → Marks p n k mark → n ≤ k → mark ≡ pick (none p n) 0 zeroTerm
+marks-end : {p : ℕ → Bool} {n k mark : ℕ} → Marks p n k mark → n ≤ k → mark ≡ cond (none p n) 0 zeroTerm
 marks-end (clean s) h = simp (eq-eqb _ _ (sym (seek-end s h)))
 marks-end (seen x) h = simp (ne-eqb _ _ x)
 
@@ -46,7 +47,7 @@ pub scan-start : (run : List ℕ) (idx n : ℕ) → Scanning run idx n 0 0
 scan-start run idx n = record { placed = seek-start _ _; terms = clean (seek-start _ _) }
 
 pub scan-next : {run : List ℕ} {idx n k mark term next : ℕ} → Scanning run idx n k mark → k < n → runIndex run k ≡ idx + 1 + k
-    → term ≡ runTerm run k → next ≡ pick (eqb term 0) zeroTerm mark → Scanning run idx n (k + 1) next
+    → term ≡ runTerm run k → next ≡ cond (eqb term 0) zeroTerm mark → Scanning run idx n (k + 1) next
 scan-next {run} {idx} {n} {k} {mark} {term} {next} s h i q r = record {
   placed = seek-next (s .placed) h (same-not i);
   terms = subst (Marks (zeroAt run) n (k + 1)) (sym r) (marks-next (eqb term 0) (s .terms) h (ap (λ (x : ℕ). eqb x 0) (sym q)));
@@ -63,14 +64,14 @@ module _ (run : List ℕ) (idx n : ℕ) where
 
 -- ---- the check by the pass
 
-scan-bad : (a b : Bool) (x : Checked) → (pick a (pick b 0 zeroTerm) misnumberedRun ≡ 0 → ⊥)
-    → orRefuse a misnumberedRun (orRefuse b zeroTerm x) ≡ Refused (pick a (pick b 0 zeroTerm) misnumberedRun)
+scan-bad : (a b : Bool) (x : Checked) → (cond a (cond b 0 zeroTerm) misnumberedRun ≡ 0 → ⊥)
+    → cond a (cond b x (Refused zeroTerm)) (Refused misnumberedRun) ≡ Refused (cond a (cond b 0 zeroTerm) misnumberedRun)
 scan-bad true true x h = absurd (h refl)
 scan-bad true false x h = refl
 scan-bad false b x h = refl
 
-scan-good : (a b : Bool) (x : Checked) → pick a (pick b 0 zeroTerm) misnumberedRun ≡ 0
-    → orRefuse a misnumberedRun (orRefuse b zeroTerm x) ≡ x
+scan-good : (a b : Bool) (x : Checked) → cond a (cond b 0 zeroTerm) misnumberedRun ≡ 0
+    → cond a (cond b x (Refused zeroTerm)) (Refused misnumberedRun) ≡ x
 scan-good true true x h = refl
 scan-good true false x h = absurd (omega arith)
 scan-good false b x h = absurd (omega arith)
@@ -105,15 +106,13 @@ pub record Passed (run : List ℕ) (idx n : ℕ) : Type 0 where
   pub set : firstFrom (zeroAt run) 0 n ≡ n
 
 no-records : {r n : ℕ} → Refused r ≡ Records n → ⊥
-no-records h =
-    let z : _≡_ {A = ℕ} 0 1 = cc in
-    omega arith
+no-records h = never cc
 
-or-inv : (b : Bool) (r : ℕ) (x : Checked) {n : ℕ} → orRefuse b r x ≡ Records n → (b ≡ true) × (x ≡ Records n)
+or-inv : (b : Bool) (r : ℕ) (x : Checked) {n : ℕ} → cond b x (Refused r) ≡ Records n → (b ≡ true) × (x ≡ Records n)
 or-inv true r x h = (refl, h)
 or-inv false r x h = absurd (no-records h)
 
-or-refused : (a b : Bool) (n : ℕ) {r : ℕ} → orRefuse a misnumberedRun (orRefuse b zeroTerm (Records n)) ≡ Refused r
+or-refused : (a b : Bool) (n : ℕ) {r : ℕ} → cond a (cond b (Records n) (Refused zeroTerm)) (Refused misnumberedRun) ≡ Refused r
     → ((not a ≡ true) × (r ≡ misnumberedRun)) ⊎ ((not a ≡ false) × (not b ≡ true) × (r ≡ zeroTerm))
 or-refused true true n h = absurd (no-records (sym h))
 or-refused true false n h = inr (refl, refl, cc)
@@ -134,7 +133,7 @@ module _ (run : List ℕ) (idx : ℕ) where
   pub run-passed : {n : ℕ} → checkRun run idx ≡ Records n → Passed run idx n
   unfolding checkRun termsSet
   run-passed {n} h =
-      let a = or-inv (numbered run idx) misnumberedRun (orRefuse (termsSet run) zeroTerm (Records (runCount run))) h in
+      let a = or-inv (numbered run idx) misnumberedRun (cond (termsSet run) (Records (runCount run)) (Refused zeroTerm)) h in
       let b = or-inv (termsSet run) zeroTerm (Records (runCount run)) (a .1) in
       let e : runCount run ≡ n = cc in
       record {

@@ -1,12 +1,12 @@
 -- The one search: what a loop that runs it keeps, and what the place found says of the places before it.
 use mathlib.Core.Path.{_≡_, refl, sym, ap, subst, _∙_}
-use mathlib.Core.Bool.{Bool, true, false, not}
+use mathlib.Core.Bool.{Bool, true, false, not, cond}
 use mathlib.Core.Logic.{_⊎_, ⊎-elim, inl, inr}
 use Prim.Native.Nat.{ℕ, zero, suc, _+_, _-_, _≤_, _<_}
 use native.Mathlib.Omega.{arith}
 use lib.Dec.{eqb, ltb}
 use borrow.Author.Tests.{eq-eqb, ne-eqb, ltb-true, ltb-false}
-use Rattle.raft_log.specs.Words.{firstFrom, pick}
+use Rattle.raft_log.specs.Words.{firstFrom}
 use Rattle.raft_log.proofs.States.{not-both}
 
 pub same-not : {a b : ℕ} → a ≡ b → not (eqb a b) ≡ false
@@ -31,11 +31,11 @@ pub seek-start : (p : ℕ → Bool) (n : ℕ) → Seek p n 0
 seek-start p n = record { within = omega arith; same = ap (firstFrom p 0) (omega arith) }
 
 module _ {p : ℕ → Bool} {n k : ℕ} (s : Seek p n k) where
-  one-more : (b : Bool) → k < n → p k ≡ b → firstFrom p 0 n ≡ pick b k (firstFrom p (k + 1) (n - (k + 1)))
+  one-more : (b : Bool) → k < n → p k ≡ b → firstFrom p 0 n ≡ cond b k (firstFrom p (k + 1) (n - (k + 1)))
   unfolding firstFrom
   one-more b h t =
       let e : n - k ≡ suc (n - (k + 1)) = omega arith in
-      s .same ∙ ap (firstFrom p k) e ∙ ap (λ (x : Bool). pick x k (firstFrom p (k + 1) (n - (k + 1)))) t
+      s .same ∙ ap (firstFrom p k) e ∙ ap (λ (x : Bool). cond x k (firstFrom p (k + 1) (n - (k + 1)))) t
 
   pub seek-next : k < n → p k ≡ false → Seek p n (k + 1)
   seek-next h f = record { within = omega arith; same = one-more false h f }
@@ -56,7 +56,7 @@ pub record Found (p : ℕ → Bool) (k n r : ℕ) : Type 0 where
   pub hit : r < k + n → p r ≡ true
   pub passed : (j : ℕ) → k ≤ j → j < r → p j ≡ false
 
-found-step : {p : ℕ → Bool} {k n r : ℕ} (b : Bool) → p k ≡ b → Found p (k + 1) n r → Found p k (suc n) (pick b k r)
+found-step : {p : ℕ → Bool} {k n r : ℕ} (b : Bool) → p k ≡ b → Found p (k + 1) n r → Found p k (suc n) (cond b k r)
 found-step true t f = record { within = omega arith; hit = λ h. t; passed = λ j h w. absurd (omega arith) }
 found-step {p} {k} false t f = record {
   within = omega (arith, f .within);

@@ -1,9 +1,8 @@
 -- The laws of specs/Settle.antt: one for each answer of `stable_entries`, what an answer that is no refusal tells, and the settled store after each.
-use mathlib.Core.Path.{_≡_, refl, sym, ap}
-use mathlib.Core.Bool.{Bool, true, false, not}
+use mathlib.Core.Path.{_≡_, sym, ap}
+use mathlib.Core.Bool.{true, false, not}
 use mathlib.Core.List.{List}
 use Prim.Native.Nat.{ℕ, _+_, _-_, _*_, _≤_, _<_}
-use native.Mathlib.Omega.{arith}
 use lib.Seq.{paste}
 use borrow.Author.Tests.{eq-eqb, ne-eqb, lt-ltb, le-ltb, eqb-true, eqb-false, ltb-false, not-true, not-false}
 use Rattle.units.specs.Refusals.{brokenState, noRoom, notPending}
@@ -13,9 +12,10 @@ use Rattle.raft_log.specs.declared.Changed.the-variants.{Now, Refused}
 use Rattle.raft_log.specs.Words.{room, recordWords}
 use Rattle.raft_log.specs.State.{Good, broken, termAt, lastOf}
 use Rattle.raft_log.specs.Append.{withPending}
-use Rattle.raft_log.specs.Commit.{refuseIf}
 use Rattle.raft_log.specs.Settle.{isLast, settledOverfull, settledLog, settleAnswer, settleStore}
 use Rattle.raft_log.proofs.States.{split, refuted, ok-good}
+use Rattle.units.proofs.Cond.{past}
+use Rattle.units.proofs.Never.{never}
 
 module _ (l : Log) (settled pending : List ℕ) (i t : ℕ) where
   -- (i, t) is the last of some pending records
@@ -51,30 +51,24 @@ module _ (l : Log) (settled pending : List ℕ) (i t : ℕ) where
     unfolding settleAnswer
     settle-done last e r g = simp (e, h, le-ltb _ _ r, last-test g)
 
-no-now : {r : ℕ} {a : Log} → Refused r ≡ Now a → ⊥
-no-now h =
-    let z : _≡_ {A = ℕ} 0 1 = cc in
-    omega arith
-
-inverted : (b : Bool) (r : ℕ) (x : Changed) {a : Log} → refuseIf b r x ≡ Now a → (b ≡ false) × (x ≡ Now a)
-inverted true r x h = absurd (no-now h)
-inverted false r x h = (refl, h)
+pub no-now : {r : ℕ} {a : Log} → Refused r ≡ Now a → ⊥
+no-now h = never cc
 
 module _ (l : Log) (settled pending : List ℕ) where
   pub settle-room : (i t : ℕ) {a : Log} → settleAnswer l settled pending i t ≡ Now a
       → Good l settled pending × (lastOf l - l .start .0 ≤ room settled)
   unfolding settleAnswer
   settle-room i t h =
-      let s = inverted (broken l settled pending) brokenState _ h in
-      let r = inverted (settledOverfull l settled) noRoom _ (s .1) in
+      let s = past (broken l settled pending) no-now h in
+      let r = past (settledOverfull l settled) no-now (s .1) in
       (ok-good l settled pending (not-false _ (s .0)), ltb-false _ _ (r .0))
 
   pub settle-log : (i t : ℕ) {a : Log} → settleAnswer l settled pending i t ≡ Now a → settledLog l ≡ a
   unfolding settleAnswer
   settle-log i t h =
-      let s = inverted (broken l settled pending) brokenState _ h in
-      let r = inverted (settledOverfull l settled) noRoom _ (s .1) in
-      let e = inverted (not (isLast l settled pending i t)) notPending _ (r .1) in
+      let s = past (broken l settled pending) no-now h in
+      let r = past (settledOverfull l settled) no-now (s .1) in
+      let e = past (not (isLast l settled pending i t)) no-now (r .1) in
       cc (e .1)
 
   pub settled-kept : {x : Changed} {r : ℕ} → x ≡ Refused r → settled ≡ settleStore x l settled pending

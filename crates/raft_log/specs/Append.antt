@@ -1,6 +1,6 @@
 -- `maybe_append` of document 01. A reader must know: `appendAnswer` is the answer with the whole new log, its refusals one ordered table of named tests; `appendStore` is the pending store after it, word by word.
 use Prim.Native.Nat.{ℕ, _+_, _-_, min, max}
-use mathlib.Core.Bool.{Bool, true, false, not, _&&_, _||_}
+use mathlib.Core.Bool.{Bool, not, _&&_, _||_, cond}
 use mathlib.Core.List.{List}
 use lib.Dec.{eqb, leb, ltb}
 use Rattle.units.specs.Units.{indexOf}
@@ -8,7 +8,7 @@ use Rattle.units.specs.Refusals.{brokenState, misnumberedRun, zeroTerm, outside
 use Rattle.raft_log.specs.declared.Log.{Log}
 use Rattle.raft_log.specs.declared.Appended.{Appended}
 use Rattle.raft_log.specs.declared.Appended.the-variants.{Done, Refused}
-use Rattle.raft_log.specs.Words.{room, runCount, runTerm, firstFrom, putRun, pick}
+use Rattle.raft_log.specs.Words.{room, runCount, runTerm, firstFrom, putRun}
 use Rattle.raft_log.specs.State.{lastOf, broken, termAt}
 use Rattle.raft_log.specs.Run.{misnumbered, zeroTermIn}
 
@@ -18,7 +18,7 @@ differs l settled pending idx run k = not (eqb (runTerm run k) (termAt l settled
 
 -- 01: "the conflict is the first run record whose term differs from term(its index), 0 if none." (by how many come before it)
 abbrev pub conflictOf : ℕ → ℕ → ℕ → ℕ
-conflictOf idx n k = pick (ltb k n) (idx + 1 + k) 0
+conflictOf idx n k = cond (ltb k n) (idx + 1 + k) 0
 
 -- The log with another offset, pending count and persisted.
 abbrev pub withPending : Log → ℕ → ℕ → ℕ → Log
@@ -51,8 +51,7 @@ cutLog l conflict last persisted = withPending l (min (l .offset .0) conflict) (
 
 -- "persisted becomes the smaller of itself and conflict - 1": only where there is a conflict.
 abbrev pub cutIf : Bool → Log → ℕ → ℕ → Log
-cutIf true l conflict last = cutLog l conflict last (min (l .persisted .0) (conflict - 1))
-cutIf false l conflict last = l
+cutIf test l conflict last = cond test (cutLog l conflict last (min (l .persisted .0) (conflict - 1))) l
 
 -- "Then committed becomes the larger of itself and min(commit, idx + count)."
 abbrev pub commitUp : Log → ℕ → ℕ → Log
@@ -79,11 +78,6 @@ cuts l idx n k = ltb k n && leb (idx + 1 + k) (l .committed .0)
 abbrev pub overfull : Log → List ℕ → Bool
 overfull after pending = ltb (room pending) (after .count)
 
--- The refusal where the test says yes, else the answer.
-abbrev pub refuseIf : Bool → ℕ → Appended → Appended
-refuseIf true number answer = Refused number
-refuseIf false number answer = answer
-
 -- "Answer: conflict and idx + count."
 abbrev pub accepted : ℕ → ℕ → ℕ → Log → Appended
 accepted idx n k after = Done (indexOf (conflictOf idx n k)) (indexOf (idx + n)) after
@@ -91,33 +85,28 @@ accepted idx n k after = Done (indexOf (conflictOf idx n k)) (indexOf (idx + n))
 -- The part of the table that reads no run and no store: n records, k of them before the first that differs.
 unfoldable pub decide : Log → List ℕ → ℕ → ℕ → ℕ → ℕ → Appended
 decide l pending idx commit n k =
-    refuseIf (cuts l idx n k) cutsCommitted
-    (refuseIf (overfull (afterMessage l idx n k commit) pending) noRoom
+    cond (cuts l idx n k) (Refused cutsCommitted)
+    (cond (overfull (afterMessage l idx n k commit) pending) (Refused noRoom)
     (accepted idx n k (afterMessage l idx n k commit)))
 
 -- The part of it that comes after the run's own checks: n is how many records the run has.
 unfoldable pub matchRun : Log → List ℕ → List ℕ → ℕ → ℕ → ℕ → List ℕ → ℕ → Appended
 matchRun l settled pending idx term commit run n =
-    refuseIf (outside l idx term) outsideLog
-    (refuseIf (mismatched l settled pending idx term) mismatch
+    cond (outside l idx term) (Refused outsideLog)
+    (cond (mismatched l settled pending idx term) (Refused mismatch)
     (decide l pending idx commit n (firstFrom (differs l settled pending idx run) 0 n)))
 
 -- THE PROMISE of `maybe_append`: the whole table, in document 01's order.
 unfoldable pub appendAnswer : Log → List ℕ → List ℕ → ℕ → ℕ → ℕ → List ℕ → Appended
 appendAnswer l settled pending idx term commit run =
-    refuseIf (broken l settled pending) brokenState
-    (refuseIf (misnumbered run idx) misnumberedRun
-    (refuseIf (zeroTermIn run) zeroTerm
+    cond (broken l settled pending) (Refused brokenState)
+    (cond (misnumbered run idx) (Refused misnumberedRun)
+    (cond (zeroTermIn run) (Refused zeroTerm)
     (matchRun l settled pending idx term commit run (runCount run))))
-
--- The first where the test says yes, else the second.
-abbrev pub storeIf : Bool → List ℕ → List ℕ → List ℕ
-storeIf true a b = a
-storeIf false a b = b
 
 -- The pending store after an answer: the run's records from the conflict on, each at its place; every other word as it was. Where nothing is cut, nothing is written.
 unfoldable pub appendStore : Appended → List ℕ → ℕ → List ℕ → List ℕ
 appendStore (Refused number) pending idx run = pending
 appendStore (Done conflict last l) pending idx run =
-    storeIf (eqb (conflict .0) 0) pending
+    cond (eqb (conflict .0) 0) pending
     (putRun pending (conflict .0 - l .offset .0) run (conflict .0 - idx - 1) (last .0 + 1 - conflict .0))

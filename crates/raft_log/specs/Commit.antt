@@ -1,6 +1,6 @@
 -- The calls that move one number of the state: `commit_to`, `maybe_commit`, `applied_to`, `maybe_persist`. A reader must know: each answers the whole new log, or a refusal, or no.
 use Prim.Native.Nat.{ℕ, _-_, min}
-use mathlib.Core.Bool.{Bool, true, false, _&&_, _||_}
+use mathlib.Core.Bool.{Bool, _&&_, _||_, cond}
 use mathlib.Core.List.{List}
 use lib.Dec.{eqb, leb, ltb}
 use Rattle.units.specs.Units.{indexOf}
@@ -30,39 +30,19 @@ withApplied l applied = record {
 abbrev pub withPersisted : Log → ℕ → Log
 withPersisted l persisted = withPending l (l .offset .0) (l .count) persisted
 
--- The refusal where the test says yes, else the answer.
-abbrev pub refuseIf : Bool → ℕ → Changed → Changed
-refuseIf true number answer = changed.Refused number
-refuseIf false number answer = answer
-
--- The first answer where the test says yes, else the second.
-abbrev pub changedIf : Bool → Changed → Changed → Changed
-changedIf true a b = a
-changedIf false a b = b
-
 -- THE PROMISE of `commit_to(i)`: "nothing if i <= committed, else committed is i". 8: "`commit_to` above last".
 unfoldable pub commitTo : Log → List ℕ → List ℕ → ℕ → Changed
 commitTo l settled pending i =
-    refuseIf (broken l settled pending) brokenState
-    (changedIf (leb i (l .committed .0)) (changed.Now l)
-    (refuseIf (ltb (lastOf l) i) outOfRange (changed.Now (withCommitted l i))))
+    cond (broken l settled pending) (changed.Refused brokenState)
+    (cond (leb i (l .committed .0)) (changed.Now l)
+    (cond (ltb (lastOf l) i) (changed.Refused outOfRange) (changed.Now (withCommitted l i))))
 
 -- THE PROMISE of `applied_to(i)`: "`applied_to(0)` does nothing; `applied_to(i)` makes applied i". 8: "a nonzero `applied_to` above min(committed, persisted) or below applied".
 unfoldable pub appliedTo : Log → List ℕ → List ℕ → ℕ → Changed
 appliedTo l settled pending i =
-    refuseIf (broken l settled pending) brokenState
-    (changedIf (eqb i 0) (changed.Now l)
-    (refuseIf (ltb (min (l .committed .0) (l .persisted .0)) i || ltb i (l .applied .0)) outOfRange (changed.Now (withApplied l i))))
-
--- Refusal 1 where the state is broken, else the answer.
-abbrev pub decideUnless : Bool → Decided → Decided
-decideUnless true answer = decided.Refused brokenState
-decideUnless false answer = answer
-
--- Yes, with the log after it, or no.
-abbrev pub yesIf : Bool → Log → Decided
-yesIf true l = decided.Yes l
-yesIf false l = decided.No
+    cond (broken l settled pending) (changed.Refused brokenState)
+    (cond (eqb i 0) (changed.Now l)
+    (cond (ltb (min (l .committed .0) (l .persisted .0)) i || ltb i (l .applied .0)) (changed.Refused outOfRange) (changed.Now (withApplied l i))))
 
 -- "yes exactly if committed < i <= last (the upper bound is added) and term(i) = t"
 abbrev pub mayCommit : Log → List ℕ → List ℕ → ℕ → ℕ → Bool
@@ -70,7 +50,7 @@ mayCommit l settled pending i t = ltb (l .committed .0) i && leb i (lastOf l) &&
 
 -- THE PROMISE of `maybe_commit(i, t)`: that, "then commits".
 unfoldable pub maybeCommit : Log → List ℕ → List ℕ → ℕ → ℕ → Decided
-maybeCommit l settled pending i t = decideUnless (broken l settled pending) (yesIf (mayCommit l settled pending i t) (withCommitted l i))
+maybeCommit l settled pending i t = cond (broken l settled pending) (decided.Refused brokenState) (cond (mayCommit l settled pending i t) (decided.Yes (withCommitted l i)) decided.No)
 
 -- "yes exactly if persisted < i < offset and the settled term at i is t"
 abbrev pub mayPersist : Log → List ℕ → ℕ → ℕ → Bool
@@ -78,4 +58,4 @@ mayPersist l settled i t = ltb (l .persisted .0) i && ltb i (l .offset .0) && eq
 
 -- THE PROMISE of `maybe_persist(i, t)`: that; "then persisted is i".
 unfoldable pub maybePersist : Log → List ℕ → List ℕ → ℕ → ℕ → Decided
-maybePersist l settled pending i t = decideUnless (broken l settled pending) (yesIf (mayPersist l settled i t) (withPersisted l i))
+maybePersist l settled pending i t = cond (broken l settled pending) (decided.Refused brokenState) (cond (mayPersist l settled i t) (decided.Yes (withPersisted l i)) decided.No)

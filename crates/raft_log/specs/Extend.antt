@@ -1,7 +1,7 @@
 -- `append` of document 01: "the cut above from its own first index, no term compared; answers the new last. An empty run answers last. `persisted` is untouched."
 -- A reader must know: `extendAnswer` is the answer with the whole new log, its refusals one ordered table; `extendStore` is the pending store after it.
 use Prim.Native.Nat.{ℕ, _+_, _-_}
-use mathlib.Core.Bool.{Bool, true, false, not, _&&_, _||_}
+use mathlib.Core.Bool.{Bool, not, _&&_, _||_, cond}
 use mathlib.Core.List.{List}
 use lib.Dec.{eqb, leb, ltb}
 use Rattle.units.specs.Units.{indexOf}
@@ -12,7 +12,7 @@ use Rattle.raft_log.specs.declared.Extended.the-variants.{Last, Refused}
 use Rattle.raft_log.specs.Words.{runCount, runIndex, putRun}
 use Rattle.raft_log.specs.State.{lastOf, broken}
 use Rattle.raft_log.specs.Run.{misnumbered, zeroTermIn}
-use Rattle.raft_log.specs.Append.{cutLog, overfull, storeIf}
+use Rattle.raft_log.specs.Append.{cutLog, overfull}
 use lib.ListN.{length}
 
 -- The run's own first index.
@@ -39,35 +39,25 @@ leavesGap l first = ltb (lastOf l + 1) first
 abbrev pub startsPersisted : Log → ℕ → Bool
 startsPersisted l first = leb first (l .persisted .0)
 
--- The refusal where the test says yes, else the answer.
-abbrev pub refuseIf : Bool → ℕ → Extended → Extended
-refuseIf true number answer = Refused number
-refuseIf false number answer = answer
-
 -- A run that is not empty, from its first index on.
 unfoldable pub extendFrom : Log → List ℕ → ℕ → ℕ → Extended
 extendFrom l pending first n =
-    refuseIf (startsCommitted l first) cutsCommitted
-    (refuseIf (leavesGap l first) outOfRange
-    (refuseIf (overfull (extended l first n) pending) noRoom
-    (refuseIf (startsPersisted l first) outOfRange
+    cond (startsCommitted l first) (Refused cutsCommitted)
+    (cond (leavesGap l first) (Refused outOfRange)
+    (cond (overfull (extended l first n) pending) (Refused noRoom)
+    (cond (startsPersisted l first) (Refused outOfRange)
     (Last (indexOf (first + n - 1)) (extended l first n)))))
-
--- The first where the run is empty, else the second.
-abbrev pub unlessEmpty : Bool → Extended → Extended → Extended
-unlessEmpty true a b = a
-unlessEmpty false a b = b
 
 -- THE PROMISE of `append`: "answers the new last. An empty run answers last."
 unfoldable pub extendAnswer : Log → List ℕ → List ℕ → List ℕ → Extended
 extendAnswer l settled pending run =
-    refuseIf (broken l settled pending) brokenState
-    (refuseIf (badRun run) misnumberedRun
-    (refuseIf (zeroTermIn run) zeroTerm
-    (unlessEmpty (eqb (length run) 0) (Last (indexOf (lastOf l)) l)
+    cond (broken l settled pending) (Refused brokenState)
+    (cond (badRun run) (Refused misnumberedRun)
+    (cond (zeroTermIn run) (Refused zeroTerm)
+    (cond (eqb (length run) 0) (Last (indexOf (lastOf l)) l)
     (extendFrom l pending (firstOf run) (runCount run)))))
 
 -- The pending store after an answer: the whole run from its first index on; every other word as it was.
 unfoldable pub extendStore : Extended → List ℕ → List ℕ → List ℕ
 extendStore (Refused number) pending run = pending
-extendStore (Last last l) pending run = storeIf (eqb (length run) 0) pending (putRun pending (firstOf run - l .offset .0) run 0 (runCount run))
+extendStore (Last last l) pending run = cond (eqb (length run) 0) pending (putRun pending (firstOf run - l .offset .0) run 0 (runCount run))

@@ -1,6 +1,6 @@
 -- The calls that only look: `term`, `first_index`, `last_index`, `last_term`, `find_conflict_by_term`, `is_up_to_date`, `commit_info`. A reader must know: each answers refusal 1, or what the definition says.
 use Prim.Native.Nat.{ℕ, zero, suc, _+_}
-use mathlib.Core.Bool.{Bool, true, false, _&&_, _||_}
+use mathlib.Core.Bool.{Bool, _&&_, _||_, cond}
 use mathlib.Core.List.{List}
 use lib.Dec.{eqb, leb, ltb}
 use Rattle.units.specs.Units.{indexOf, termOf}
@@ -16,39 +16,23 @@ use Rattle.raft_log.specs.declared.Told.{Told}
 use Rattle.raft_log.specs.declared.Told.the-variants as told
 use Rattle.raft_log.specs.declared.Info.{Info}
 use Rattle.raft_log.specs.declared.Info.the-variants as info
-use Rattle.raft_log.specs.Words.{pick}
 use Rattle.raft_log.specs.State.{lastOf, broken, termAt}
-
--- Document 01's values for each case of an answer with a term: refusal 1 alone, or the term.
-abbrev pub termUnless : Bool → ℕ → Looked
-termUnless true t = looked.Refused brokenState
-termUnless false t = looked.At (termOf t)
-
--- Document 01's values for each case of an answer with an index: refusal 1 alone, or the index.
-abbrev pub indexUnless : Bool → ℕ → Placed
-indexUnless true i = placed.Refused brokenState
-indexUnless false i = placed.At (indexOf i)
-
--- Document 01's values for each case of a yes-or-no answer: refusal 1 alone, or the yes or no.
-abbrev pub isUnless : Bool → Bool → Told
-isUnless true b = told.Refused brokenState
-isUnless false b = told.Is b
 
 -- THE PROMISE of `term(i)`: "the record's term; the start's term at start; 0 outside [start, last]".
 unfoldable pub lookTerm : Log → List ℕ → List ℕ → ℕ → Looked
-lookTerm l settled pending i = termUnless (broken l settled pending) (termAt l settled pending i)
+lookTerm l settled pending i = cond (broken l settled pending) (looked.Refused brokenState) (looked.At (termOf (termAt l settled pending i)))
 
 -- THE PROMISE of `first_index`: the index after the start, "before its first record".
 unfoldable pub lookFirst : Log → List ℕ → List ℕ → Placed
-lookFirst l settled pending = indexUnless (broken l settled pending) (l .start .0 + 1)
+lookFirst l settled pending = cond (broken l settled pending) (placed.Refused brokenState) (placed.At (indexOf (l .start .0 + 1)))
 
 -- THE PROMISE of `last_index`: "Last is offset plus the pending count, minus 1."
 unfoldable pub lookLast : Log → List ℕ → List ℕ → Placed
-lookLast l settled pending = indexUnless (broken l settled pending) (lastOf l)
+lookLast l settled pending = cond (broken l settled pending) (placed.Refused brokenState) (placed.At (indexOf (lastOf l)))
 
 -- THE PROMISE of `last_term`: the term there.
 unfoldable pub lookLastTerm : Log → List ℕ → List ℕ → Looked
-lookLastTerm l settled pending = termUnless (broken l settled pending) (termAt l settled pending (lastOf l))
+lookLastTerm l settled pending = cond (broken l settled pending) (looked.Refused brokenState) (looked.At (termOf (termAt l settled pending (lastOf l))))
 
 -- The term at j is at most t.
 abbrev pub atMost : Log → List ℕ → List ℕ → ℕ → ℕ → Bool
@@ -57,12 +41,7 @@ atMost l settled pending t j = leb (termAt l settled pending j) t
 -- The largest number from i down that p holds of, 0 where it holds of none above.
 unfoldable pub lastDown : (ℕ → Bool) → ℕ → ℕ
 lastDown p zero = zero
-lastDown p (suc j) = pick (p (suc j)) (suc j) (lastDown p j)
-
--- The first answer where the test says yes, else the second.
-abbrev pub either : Bool → ByTerm → ByTerm → ByTerm
-either true a b = a
-either false a b = b
+lastDown p (suc j) = cond (p (suc j)) (suc j) (lastDown p j)
 
 -- j and its term.
 abbrev pub foundAt : Log → List ℕ → List ℕ → ℕ → ByTerm
@@ -71,11 +50,11 @@ foundAt l settled pending j = byterm.Found (indexOf j) (termOf (termAt l settled
 -- "i with no term if i > last; else the largest j <= i with term(j) <= t, and that term. Below start the term is 0."
 unfoldable pub byTermIn : Log → List ℕ → List ℕ → ℕ → ℕ → ByTerm
 byTermIn l settled pending i t =
-    either (ltb (lastOf l) i) (byterm.Beyond (indexOf i)) (foundAt l settled pending (lastDown (atMost l settled pending t) i))
+    cond (ltb (lastOf l) i) (byterm.Beyond (indexOf i)) (foundAt l settled pending (lastDown (atMost l settled pending t) i))
 
 -- THE PROMISE of `find_conflict_by_term(i, t)`.
 unfoldable pub byTerm : Log → List ℕ → List ℕ → ℕ → ℕ → ByTerm
-byTerm l settled pending i t = either (broken l settled pending) (byterm.Refused brokenState) (byTermIn l settled pending i t)
+byTerm l settled pending i t = cond (broken l settled pending) (byterm.Refused brokenState) (byTermIn l settled pending i t)
 
 -- "t > last term, or equal and i >= last"
 abbrev pub upToDate : Log → List ℕ → List ℕ → ℕ → ℕ → Bool
@@ -83,13 +62,8 @@ upToDate l settled pending i t = ltb (termAt l settled pending (lastOf l)) t || 
 
 -- THE PROMISE of `is_up_to_date(i, t)`.
 unfoldable pub lookUpToDate : Log → List ℕ → List ℕ → ℕ → ℕ → Told
-lookUpToDate l settled pending i t = isUnless (broken l settled pending) (upToDate l settled pending i t)
-
--- Document 01's values for each case of the answer of `commit_info`: refusal 1 alone, or an index and a term.
-abbrev pub infoUnless : Bool → ℕ → ℕ → Info
-infoUnless true i t = info.Refused brokenState
-infoUnless false i t = info.At (indexOf i) (termOf t)
+lookUpToDate l settled pending i t = cond (broken l settled pending) (told.Refused brokenState) (told.Is (upToDate l settled pending i t))
 
 -- THE PROMISE of `commit_info`: "committed and its term".
 unfoldable pub lookCommit : Log → List ℕ → List ℕ → Info
-lookCommit l settled pending = infoUnless (broken l settled pending) (l .committed .0) (termAt l settled pending (l .committed .0))
+lookCommit l settled pending = cond (broken l settled pending) (info.Refused brokenState) (info.At (indexOf (l .committed .0)) (termOf (termAt l settled pending (l .committed .0))))

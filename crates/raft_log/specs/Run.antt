@@ -1,6 +1,6 @@
 -- What refusals 2 and 3 say of a run. A reader must know: `misnumbered` and `zeroTermIn` are the two tests; `idx` is the index that the run follows on.
 use Prim.Native.Nat.{ℕ, _+_, _%_}
-use mathlib.Core.Bool.{Bool, true, false, not, _&&_}
+use mathlib.Core.Bool.{Bool, not, _&&_, cond}
 use mathlib.Core.List.{List}
 use lib.Dec.{eqb, leb}
 use lib.ListN.{length}
@@ -8,7 +8,7 @@ use Rattle.units.specs.Units.{indexLimit}
 use Rattle.units.specs.Refusals.{misnumberedRun, zeroTerm}
 use Rattle.raft_log.specs.declared.run.Checked.{Checked}
 use Rattle.raft_log.specs.declared.run.Checked.the-variants as checked
-use Rattle.raft_log.specs.Words.{runWords, runCount, runIndex, runTerm, none, pick}
+use Rattle.raft_log.specs.Words.{runWords, runCount, runIndex, runTerm, none}
 
 -- Record k does not have the index that its place after idx asks.
 abbrev pub misplaced : List ℕ → ℕ → ℕ → Bool
@@ -39,16 +39,11 @@ zeroTermIn run = not (termsSet run)
 
 -- Inner: what the code's one pass over a run finds, as a number.
 unfoldable pub scanRun : List ℕ → ℕ → ℕ → ℕ
-scanRun run idx n = pick (none (misplaced run idx) n) (pick (none (zeroAt run) n) 0 zeroTerm) misnumberedRun
-
--- Inner: what was checked so far, or a refusal where the test fails.
-abbrev pub orRefuse : Bool → ℕ → Checked → Checked
-orRefuse true number c = c
-orRefuse false number c = checked.Refused number
+scanRun run idx n = cond (none (misplaced run idx) n) (cond (none (zeroAt run) n) 0 zeroTerm) misnumberedRun
 
 -- Inner: the check of a run, 2 before 3, or how many records it has.
 unfoldable pub checkRun : List ℕ → ℕ → Checked
-checkRun run idx = orRefuse (numbered run idx) misnumberedRun (orRefuse (termsSet run) zeroTerm (checked.Records (runCount run)))
+checkRun run idx = cond (numbered run idx) (cond (termsSet run) (checked.Records (runCount run)) (checked.Refused zeroTerm)) (checked.Refused misnumberedRun)
 
 -- Inner: the number of a check, 0 where it refuses nothing.
 abbrev pub refusedBy : Checked → ℕ

@@ -1,7 +1,7 @@
 -- `stable_entries` of document 01: "pending's last record must be (i, t); pending is copied to settled .. and offset becomes i + 1".
 -- A reader must know: `settleAnswer` is the answer with the whole new log; `settleStore` is the settled store after it.
 use Prim.Native.Nat.{ℕ, _+_, _-_, _*_}
-use mathlib.Core.Bool.{Bool, not, _&&_}
+use mathlib.Core.Bool.{Bool, not, _&&_, cond}
 use mathlib.Core.List.{List}
 use lib.Dec.{eqb, ltb}
 use lib.Seq.{paste}
@@ -12,7 +12,6 @@ use Rattle.raft_log.specs.declared.Changed.the-variants as changed
 use Rattle.raft_log.specs.Words.{recordWords, room}
 use Rattle.raft_log.specs.State.{lastOf, broken, termAt}
 use Rattle.raft_log.specs.Append.{withPending}
-use Rattle.raft_log.specs.Commit.{refuseIf}
 
 -- The log with nothing pending any more: "offset becomes i + 1".
 abbrev pub settledLog : Log → Log
@@ -29,9 +28,9 @@ isLast l settled pending i t = not (eqb (l .count) 0) && eqb i (lastOf l) && eqb
 -- THE PROMISE of `stable_entries`.
 unfoldable pub settleAnswer : Log → List ℕ → List ℕ → ℕ → ℕ → Changed
 settleAnswer l settled pending i t =
-    refuseIf (broken l settled pending) brokenState
-    (refuseIf (settledOverfull l settled) noRoom
-    (refuseIf (not (isLast l settled pending i t)) notPending (changed.Now (settledLog l))))
+    cond (broken l settled pending) (changed.Refused brokenState)
+    (cond (settledOverfull l settled) (changed.Refused noRoom)
+    (cond (not (isLast l settled pending i t)) (changed.Refused notPending) (changed.Now (settledLog l))))
 
 -- The settled store after an answer: "pending is copied to settled", behind its own records; every other word as it was.
 unfoldable pub settleStore : Changed → Log → List ℕ → List ℕ → List ℕ

@@ -1,6 +1,6 @@
 -- Set-up, `new`: handed the start (index, term), the last settled index and both stores. A reader must know: refusal 1 where they break the state rules, then 3 for a zero term in settled.
 use Prim.Native.Nat.{ℕ, _+_, _-_}
-use mathlib.Core.Bool.{Bool, not, _&&_}
+use mathlib.Core.Bool.{Bool, not, _&&_, cond}
 use mathlib.Core.List.{List}
 use lib.Dec.{eqb, leb}
 use Rattle.units.specs.Units.{indexOf, termOf, indexLimit}
@@ -10,7 +10,6 @@ use Rattle.raft_log.specs.declared.Changed.{Changed}
 use Rattle.raft_log.specs.declared.Changed.the-variants as changed
 use Rattle.raft_log.specs.Words.{room, storeTerm, none}
 use Rattle.raft_log.specs.State.{agree}
-use Rattle.raft_log.specs.Commit.{refuseIf}
 
 -- "committed = applied = start, persisted = last, offset = last + 1"
 abbrev pub fresh : ℕ → ℕ → ℕ → Log
@@ -43,5 +42,5 @@ settledZero settled n = not (none (zeroTermAt settled) n)
 -- THE PROMISE of `new`: 1, then 3, "a zero term .. in settled at set-up", else the log above.
 unfoldable pub setupAnswer : ℕ → ℕ → ℕ → List ℕ → Changed
 setupAnswer start startterm last settled =
-    refuseIf (not (setupOk start startterm last settled)) brokenState
-    (refuseIf (settledZero settled (last - start)) zeroTerm (changed.Now (fresh start startterm last)))
+    cond (not (setupOk start startterm last settled)) (changed.Refused brokenState)
+    (cond (settledZero settled (last - start)) (changed.Refused zeroTerm) (changed.Now (fresh start startterm last)))

@@ -1,6 +1,6 @@
 -- `slice`, `entries` and `next_entries_since` of document 01: one call answers the refusal or the bounds, a second gives the part. A reader must know: the bounds are log indices, and say which store holds the part; the part is words of that store, never a copy.
 use Prim.Native.Nat.{ℕ, _+_, _-_, _*_, min, max}
-use mathlib.Core.Bool.{Bool, true, false, _&&_}
+use mathlib.Core.Bool.{Bool, _&&_, cond}
 use mathlib.Core.List.{List, []}
 use lib.Dec.{eqb, leb, ltb}
 use lib.ListN.{take, drop}
@@ -10,37 +10,32 @@ use Rattle.raft_log.specs.declared.Log.{Log}
 use Rattle.raft_log.specs.declared.Bounds.{Bounds}
 use Rattle.raft_log.specs.declared.Bounds.the-variants as bounds
 use Rattle.raft_log.specs.declared.Told.{Told}
+use Rattle.raft_log.specs.declared.Told.the-variants as told
 use Rattle.raft_log.specs.Words.{recordWords, room}
 use Rattle.raft_log.specs.State.{lastOf, broken}
-use Rattle.raft_log.specs.Look.{isUnless}
-
--- The first bounds where the test says yes, else the second.
-abbrev pub boundsIf : Bool → Bounds → Bounds → Bounds
-boundsIf true a b = a
-boundsIf false a b = b
 
 -- "it gives a run from low, ending at high or at the store boundary, whichever comes first"; "low = high is empty".
 unfoldable pub inStore : Log → ℕ → ℕ → Bounds
 inStore l low high =
-    boundsIf (eqb low high) bounds.Empty
-    (boundsIf (ltb low (l .offset .0)) (bounds.Settled (indexOf low) (indexOf (min high (l .offset .0)))) (bounds.Pending (indexOf low) (indexOf high)))
+    cond (eqb low high) bounds.Empty
+    (cond (ltb low (l .offset .0)) (bounds.Settled (indexOf low) (indexOf (min high (l .offset .0)))) (bounds.Pending (indexOf low) (indexOf high)))
 
 -- 8: "low > high"; 9: "low below the first index"; 8: "high > last + 1". "in `slice` 9 comes before high > last + 1 (8)".
 unfoldable pub sliceIn : Log → ℕ → ℕ → Bounds
 sliceIn l low high =
-    boundsIf (ltb high low) (bounds.Refused outOfRange)
-    (boundsIf (leb low (l .start .0)) (bounds.Refused belowFirst)
-    (boundsIf (ltb (lastOf l + 1) high) (bounds.Refused outOfRange) (inStore l low high)))
+    cond (ltb high low) (bounds.Refused outOfRange)
+    (cond (leb low (l .start .0)) (bounds.Refused belowFirst)
+    (cond (ltb (lastOf l + 1) high) (bounds.Refused outOfRange) (inStore l low high)))
 
 -- THE PROMISE of `slice_bounds(low, high)`.
 unfoldable pub sliceBounds : Log → List ℕ → List ℕ → ℕ → ℕ → Bounds
-sliceBounds l settled pending low high = boundsIf (broken l settled pending) (bounds.Refused brokenState) (sliceIn l low high)
+sliceBounds l settled pending low high = cond (broken l settled pending) (bounds.Refused brokenState) (sliceIn l low high)
 
 -- THE PROMISE of `entries_bounds(i)`: "empty if i > last, else the slice from i to last + 1".
 unfoldable pub entriesBounds : Log → List ℕ → List ℕ → ℕ → Bounds
 entriesBounds l settled pending i =
-    boundsIf (broken l settled pending) (bounds.Refused brokenState)
-    (boundsIf (ltb (lastOf l) i) bounds.Empty (sliceIn l i (lastOf l + 1)))
+    cond (broken l settled pending) (bounds.Refused brokenState)
+    (cond (ltb (lastOf l) i) bounds.Empty (sliceIn l i (lastOf l + 1)))
 
 -- Where the range of `next_entries_since(s)` begins: "max(s + 1, start + 1)".
 abbrev pub nextLow : Log → ℕ → ℕ
@@ -56,24 +51,20 @@ hasNext l s = ltb s wordMax && ltb (nextLow l s) (nextHigh l)
 
 -- THE PROMISE of `has_next_entries_since(s)`.
 unfoldable pub hasNextSince : Log → List ℕ → List ℕ → ℕ → Told
-hasNextSince l settled pending s = isUnless (broken l settled pending) (hasNext l s)
+hasNextSince l settled pending s = cond (broken l settled pending) (told.Refused brokenState) (told.Is (hasNext l s))
 
 -- THE PROMISE of `next_entries_bounds_since(s)`: "gives that range as a slice, or nothing".
 unfoldable pub nextBounds : Log → List ℕ → List ℕ → ℕ → Bounds
 nextBounds l settled pending s =
-    boundsIf (broken l settled pending) (bounds.Refused brokenState)
-    (boundsIf (hasNext l s) (inStore l (nextLow l s) (nextHigh l)) bounds.Empty)
-
--- The words where the test says yes, else none.
-abbrev pub wordsIf : Bool → List ℕ → List ℕ
-wordsIf true ws = ws
-wordsIf false ws = []
+    cond (broken l settled pending) (bounds.Refused brokenState)
+    (cond (hasNext l s) (inStore l (nextLow l s) (nextHigh l)) bounds.Empty)
 
 -- The words of the records from index low up to, not including, high of a store whose first record is at index first; none where it does not hold them.
 unfoldable pub storePart : List ℕ → ℕ → ℕ → ℕ → List ℕ
 storePart store first low high =
-    wordsIf (leb first low && leb low high && leb (high - first) (room store))
+    cond (leb first low && leb low high && leb (high - first) (room store))
     (take ((high - first) * recordWords - (low - first) * recordWords) (drop ((low - first) * recordWords) store))
+    []
 
 -- THE PROMISE of `slice`, `entries` and `next_entries_since`: the part that the bounds name, "empty where the first refuses". "A run is a part of whichever store holds it, settled or pending, never a copy."
 unfoldable pub partOf : Bounds → Log → List ℕ → List ℕ → List ℕ

@@ -2,12 +2,12 @@
 -- `Good` says the same as facts; that both say the same is proved in proofs/States.antt.
 use Prim.Native.Nat.{ℕ, _+_, _-_, _≤_, _<_}
 use mathlib.Core.Path.{_≡_}
-use mathlib.Core.Bool.{Bool, true, false, not, _&&_}
+use mathlib.Core.Bool.{Bool, true, false, not, _&&_, cond}
 use mathlib.Core.List.{List}
 use lib.Dec.{eqb, leb, ltb}
 use Rattle.units.specs.Units.{indexLimit}
 use Rattle.raft_log.specs.declared.Log.{Log}
-use Rattle.raft_log.specs.Words.{room, storeTerm, pick}
+use Rattle.raft_log.specs.Words.{room, storeTerm}
 
 -- 01: "Last is offset plus the pending count, minus 1."
 abbrev pub lastOf : Log → ℕ
@@ -55,7 +55,7 @@ broken l settled pending = not (stateOk l settled pending)
 -- 01, `term(i)`: "the record's term; the start's term at start; 0 outside [start, last]."
 unfoldable pub termAt : Log → List ℕ → List ℕ → ℕ → ℕ
 termAt l settled pending i =
-    pick (ltb i (l .start .0)) 0
-    (pick (eqb i (l .start .0)) (l .startterm .0)
-    (pick (ltb i (l .offset .0)) (storeTerm settled (i - l .start .0 - 1))
-    (pick (ltb (i - l .offset .0) (l .count)) (storeTerm pending (i - l .offset .0)) 0)))
+    cond (ltb i (l .start .0)) 0
+    (cond (eqb i (l .start .0)) (l .startterm .0)
+    (cond (ltb i (l .offset .0)) (storeTerm settled (i - l .start .0 - 1))
+    (cond (ltb (i - l .offset .0) (l .count)) (storeTerm pending (i - l .offset .0)) 0)))

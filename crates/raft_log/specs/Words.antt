@@ -1,7 +1,7 @@
 -- Where a record stands in a store and in a run. A reader must know: a store holds its records one after the other, two words each, term then body; a run holds triples, index, term, body.
 -- The record's width stands here, in `recordWords`, `runWords` and the accessors, and nowhere else.
 use Prim.Native.Nat.{ℕ, zero, suc, _+_, _*_, _/_}
-use mathlib.Core.Bool.{Bool, true, false, not}
+use mathlib.Core.Bool.{Bool, not, cond}
 use mathlib.Core.List.{List, [], _∷_}
 use lib.ListN.{length, getD}
 use lib.Dec.{eqb}
@@ -52,15 +52,10 @@ unfoldable pub putRun : List ℕ → ℕ → List ℕ → ℕ → ℕ → List �
 putRun s at run k zero = s
 putRun s at run k (suc n) = putRun (putRecord s at (recordOf run k)) (at + 1) run (k + 1) n
 
--- The first number where the test says yes, else the second.
-abbrev pub pick : Bool → ℕ → ℕ → ℕ
-pick true a b = a
-pick false a b = b
-
 -- THE ONE SEARCH: the first of the n positions from k on that p holds of, k + n where it holds of none.
 unfoldable pub firstFrom : (ℕ → Bool) → ℕ → ℕ → ℕ
 firstFrom p k zero = k
-firstFrom p k (suc n) = pick (p k) k (firstFrom p (k + 1) n)
+firstFrom p k (suc n) = cond (p k) k (firstFrom p (k + 1) n)
 
 -- p holds of no position below n.
 abbrev pub none : (ℕ → Bool) → ℕ → Bool

@@ -6,10 +6,11 @@ use units::Index;
 use units::refusal::MISNUMBERED_RUN;
 use units::refusal::ZERO_TERM;
 ghost use mathlib.Core.Path.{_≡_};
+ghost use mathlib.Core.Bool.{cond};
 ghost use Prim.Native.Nat.{_+_, _≤_, _<_, _^_};
 ghost use lib.Dec.{eqb};
 ghost use Rattle.units.specs.Refusals.{zeroTerm};
-ghost use Rattle.raft_log.specs.Words.{runCount, pick};
+ghost use Rattle.raft_log.specs.Words.{runCount};
 ghost use Rattle.raft_log.specs.Run.{scanRun, checkRun, refusedBy};
 
 // How many records a good run has, or its refusal.
@@ -33,7 +34,7 @@ impl Checked {
 
 // A zero term marks the run, and only that: an index out of place further on is the stronger refusal.
 fn mark_zero(term: u64, mark: u64) -> u64
-    ensures { λ r. ⌜ r ≡ pick (eqb term 0) zeroTerm mark ⌝ }
+    ensures { λ r. ⌜ r ≡ cond (eqb term 0) zeroTerm mark ⌝ }
 {
     if term == 0 { ZERO_TERM } else { mark }
 }

@@ -1,14 +1,14 @@
 -- What step 3 leaves: the log itself where no new entry conflicts, else the log before the first that does. And what step 5 does to commitIndex, and the steps on an example.
 use Prim.Native.Nat.{ℕ, zero, suc, _+_, _≤_, _<_, min}
 use mathlib.Core.Path.{_≡_, refl, ap, _∙_}
-use mathlib.Core.Bool.{Bool, true, false}
+use mathlib.Core.Bool.{Bool, true, false, cond}
 use mathlib.Core.List.{List, [], _∷_}
 use native.Mathlib.Omega.{arith}
 use lib.Dec.{ltb}
 use borrow.Author.Tests.{ltb-true}
 use lib.ListN.{length, getD}
 use Rattle.rules.specs.Log.{Entry, nothing, Log, entry-at}
-use Rattle.rules.specs.Receiver.{Answer, reply-false, success, contains, conflicts, delete-from, delete-if, step-3, step-4, commit-if, step-5, receiver}
+use Rattle.rules.specs.Receiver.{Answer, reply-false, success, contains, conflicts, delete-from, step-3, step-4, step-5, receiver}
 
 module _ (l : Log) where
   -- the new entry j, of those from i on
@@ -19,7 +19,7 @@ module _ (l : Log) where
   unfolding step-3
   step-3-keeps i [] h = refl
   step-3-keeps i (e ∷ es) h =
-      ap (λ (b : Bool). delete-if b l i (step-3 l (i + 1) es)) (ap (λ (x : ℕ). conflicts l x e) (omega arith) ∙ h 0 (omega arith))
+      ap (λ (b : Bool). cond b (delete-from l i) (step-3 l (i + 1) es)) (ap (λ (x : ℕ). conflicts l x e) (omega arith) ∙ h 0 (omega arith))
       ∙ step-3-keeps (i + 1) es (λ j k. ap (λ (x : ℕ). conflicts l x (getD es j nothing)) (omega arith) ∙ h (suc j) (omega arith))
 
   pub step-3-deletes : (i k : ℕ) (es : List Entry) → k < length es
@@ -27,10 +27,10 @@ module _ (l : Log) where
   unfolding step-3
   step-3-deletes i k [] r h t = let z : ⊥ = omega arith in absurd z
   step-3-deletes i zero (e ∷ es) r h t =
-      ap (λ (b : Bool). delete-if b l i (step-3 l (i + 1) es)) (ap (λ (x : ℕ). conflicts l x e) (omega arith) ∙ t)
+      ap (λ (b : Bool). cond b (delete-from l i) (step-3 l (i + 1) es)) (ap (λ (x : ℕ). conflicts l x e) (omega arith) ∙ t)
       ∙ ap (delete-from l) (omega arith)
   step-3-deletes i (suc k) (e ∷ es) r h t =
-      ap (λ (b : Bool). delete-if b l i (step-3 l (i + 1) es)) (ap (λ (x : ℕ). conflicts l x e) (omega arith) ∙ h 0 (omega arith))
+      ap (λ (b : Bool). cond b (delete-from l i) (step-3 l (i + 1) es)) (ap (λ (x : ℕ). conflicts l x e) (omega arith) ∙ h 0 (omega arith))
       ∙ step-3-deletes (i + 1) k es (omega arith)
       (λ j q. ap (λ (x : ℕ). conflicts l x (getD es j nothing)) (omega arith) ∙ h (suc j) (omega arith))
       (ap (λ (x : ℕ). conflicts l x (getD es k nothing)) (omega arith) ∙ t)
@@ -41,7 +41,7 @@ pub step-5-rises : (c m x : ℕ) → c ≤ x → c ≤ step-5 c m x
 unfolding step-5
 step-5-rises c m x h = rises (ltb c m) refl
   where
-    rises : (b : Bool) → ltb c m ≡ b → c ≤ commit-if b (min m x) c
+    rises : (b : Bool) → ltb c m ≡ b → c ≤ cond b (min m x) c
     rises true e = let higher = ltb-true c m e in omega arith
     rises false e = omega arith
 

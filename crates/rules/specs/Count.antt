@@ -1,12 +1,11 @@
 -- Counting. A reader must know: `count p xs` is how many elements of the list xs pass the test p; everything that is counted in this project (acknowledgements, votes) is counted by it.
 use Prim.Native.Nat.{ℕ, suc}
-use mathlib.Core.Bool.{Bool, true, false}
+use mathlib.Core.Bool.{Bool, cond}
 use mathlib.Core.List.{List, [], _∷_}
 
 -- One more where the test says yes.
 abbrev pub one-more-if : Bool → ℕ → ℕ
-one-more-if true n = suc n
-one-more-if false n = n
+one-more-if b n = cond b (suc n) n
 
 -- How many elements of a list pass a test.
 unfoldable pub count : {A : Type 0} → (A → Bool) → List A → ℕ

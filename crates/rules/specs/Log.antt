@@ -5,7 +5,7 @@ use mathlib.Core.Path.{_≡_}
 use mathlib.Core.Bool.{cond}
 use mathlib.Core.List.{List, _∷_}
 use lib.Dec.{ltb}
-use lib.ListN.{length, getD}
+use lib.ListN.{length, getD, take, drop}
 
 -- The paper, figure 2, "log[]": "each entry contains command for state machine, and term when entry was received by leader (first index is 1)". The command is its body's number; the index is its place.
 pub record Entry : Type 0 where
@@ -21,6 +21,10 @@ pub record Log : Type 0 where
   pub start : ℕ
   pub start-term : ℕ
   pub entries : List Entry
+
+-- The n records of a list after its first k.
+abbrev pub records-after : List Entry → ℕ → ℕ → List Entry
+records-after entries k n = take n (drop k entries)
 
 -- The index of the last record, the start's where there is none.
 abbrev pub last : Log → ℕ

@@ -1,7 +1,7 @@
 -- AppendEntries at the receiver: the Raft paper (extended version), figure 2, "Receiver implementation", steps 2 to 5, each in its own words and in order.
 -- A reader must know: `receiver` is the four steps; it knows nothing of stores, of room, or of what the code refuses. (Step 1 compares leaders' terms and is out of scope.)
 use Prim.Native.Nat.{ℕ, _+_, _-_, min}
-use mathlib.Core.Bool.{Bool, true, false, not, _&&_}
+use mathlib.Core.Bool.{Bool, not, _&&_, cond}
 use mathlib.Core.List.{List, [], _∷_, _++_}
 use lib.Dec.{eqb, leb, ltb}
 use lib.ListN.{length, take, drop}
@@ -27,11 +27,6 @@ with-entries l es = record { start = l .start; start-term = l .start-term; entri
 unfoldable pub contains : Log → ℕ → ℕ → Bool
 contains l i t = leb (l .start) i && leb i (last l) && eqb (term-of l i) t
 
--- "Reply false" where the log does not contain it, else what the other steps answer.
-abbrev pub step-2 : Bool → Answer → Answer
-step-2 true answer = answer
-step-2 false answer = reply-false
-
 -- Step 3: "If an existing entry conflicts with a new one (same index but different terms), ..": the entry at i and the new one e.
 abbrev pub conflicts : Log → ℕ → Entry → Bool
 conflicts l i e = ltb (l .start) i && leb i (last l) && not (eqb (e .term) (term-of l i))
@@ -40,37 +35,28 @@ conflicts l i e = ltb (l .start) i && leb i (last l) && not (eqb (e .term) (term
 abbrev pub delete-from : Log → ℕ → Log
 delete-from l i = with-entries l (take (i - l .start - 1) (l .entries))
 
--- Deleted from there on where there is a conflict, else kept.
-abbrev pub delete-if : Bool → Log → ℕ → Log → Log
-delete-if true l i kept = delete-from l i
-delete-if false l i kept = kept
-
 -- Step 3 for the new ones at i, i + 1, ..: the first that conflicts deletes, and then no later one has an existing entry to conflict with.
 unfoldable pub step-3 : Log → ℕ → List Entry → Log
 step-3 l i [] = l
-step-3 l i (e ∷ es) = delete-if (conflicts l i e) l i (step-3 l (i + 1) es)
+step-3 l i (e ∷ es) = cond (conflicts l i e) (delete-from l i) (step-3 l (i + 1) es)
 
 -- Step 4: "Append any new entries not already in the log": those above its last index. The new ones come after prev.
 unfoldable pub step-4 : Log → ℕ → List Entry → Log
 step-4 l prev es = with-entries l (l .entries ++ drop (last l - prev) es)
 
--- The new commitIndex where the test says so, else the old one.
-abbrev pub commit-if : Bool → ℕ → ℕ → ℕ
-commit-if true new old = new
-commit-if false new old = old
-
 -- Step 5: "If leaderCommit > commitIndex, set commitIndex = min(leaderCommit, index of last new entry)".
 unfoldable pub step-5 : ℕ → ℕ → ℕ → ℕ
-step-5 commit-index leader-commit last-new = commit-if (ltb commit-index leader-commit) (min leader-commit last-new) commit-index
+step-5 commit-index leader-commit last-new = cond (ltb commit-index leader-commit) (min leader-commit last-new) commit-index
 
 -- The index of the last new entry; prevLogIndex where there is none.
 abbrev pub last-new : Message → ℕ
 last-new m = m .prev-log-index + length (m .entries)
 
--- THE STEPS, in order.
+-- THE STEPS, in order: "reply false" by step 2, else what the other steps leave.
 unfoldable pub receiver : Log → ℕ → Message → Answer
 receiver l commit-index m =
-    step-2 (contains l (m .prev-log-index) (m .prev-log-term))
+    cond (contains l (m .prev-log-index) (m .prev-log-term))
     (success
     (step-4 (step-3 l (m .prev-log-index + 1) (m .entries)) (m .prev-log-index) (m .entries))
     (step-5 commit-index (m .leader-commit) (last-new m)))
+    reply-false

@@ -9,7 +9,7 @@ use lib.ListN.{length, getD, take, drop, length-append, length-take, length-drop
 use lib.Seq.{getD-take, getD-drop, drop-cons, take-append-le, drop-append-le, ext-getD}
 use borrow.Author.Tests.{eq-eqb, ne-eqb, le-leb, le-ltb}
 use Rattle.units.specs.Units.{indexLimit}
-use Rattle.rules.specs.Log.{Entry, nothing, entry-at, term-of}
+use Rattle.rules.specs.Log.{Entry, nothing, entry-at, term-of, records-after}
 use Rattle.raft_log.specs.Words.{runWords, runCount, runIndex, runTerm, none}
 use Rattle.raft_log.specs.Run.{misplaced, zeroAt, numbered, termsSet}
 use Rattle.raft_log.proofs.Searching.{found, found-is, same-not}
@@ -17,7 +17,7 @@ use Rattle.log_laws.specs.View.{runEntry, runEntries}
 use Rattle.log_laws.specs.Keep.{NonzeroTerms}
 use Rattle.log_laws.proofs.Views.{length-listed, at-listed}
 use Rattle.two_ends.specs.Follower.{Message, last-index, WellFormed}
-use Rattle.two_ends.specs.Leader.{whole-list, as-run, records-after, cut, CutFrom}
+use Rattle.two_ends.specs.Leader.{whole-list, as-run, cut, CutFrom}
 
 -- ---- records as a run
 

@@ -1,18 +1,19 @@
 -- What the follower does between messages leaves its records and committed as they were: so what stands between the two ends stands, and nothing is lost.
 use Prim.Native.Nat.{ℕ, min}
 use mathlib.Core.Path.{_≡_, refl, sym, ap, subst}
-use mathlib.Core.Bool.{Bool, true, false, _||_}
+use mathlib.Core.Bool.{_||_}
 use mathlib.Core.List.{List}
 use native.Mathlib.Omega.{arith}
 use lib.Dec.{eqb, ltb}
-use Rattle.units.specs.Refusals.{brokenState, outOfRange}
 use Rattle.units.specs.declared.Index.{Index}
+use Rattle.units.proofs.Cond.{both-ends}
 use Rattle.rules.specs.Log.{Entry, Log as Abstract, entry-at, Matching, Agree}
 use Rattle.raft_log.specs.declared.Log.{Log}
 use Rattle.raft_log.specs.declared.Changed.{Changed}
 use Rattle.raft_log.specs.declared.Changed.the-variants as changed
+use Rattle.raft_log.specs.declared.Decided.{Decided}
 use Rattle.raft_log.specs.State.{broken}
-use Rattle.raft_log.specs.Commit.{refuseIf, changedIf, withApplied, withPersisted, decideUnless, yesIf, mayPersist, appliedTo, maybePersist}
+use Rattle.raft_log.specs.Commit.{mayPersist, appliedTo, maybePersist}
 use Rattle.raft_log.specs.Settle.{settleAnswer, settleStore}
 use Rattle.raft_log.proofs.Settling.{settle-log}
 use Rattle.log_laws.specs.View.{view-of}
@@ -48,22 +49,16 @@ Alike l settled pending a settled′ pending′ = (view-of a settled′ pending�
 module _ (l : Log) (settled pending : List ℕ) where
   persisted-alike : (i t : ℕ) → AfterDecided (Alike l settled pending) (maybePersist l settled pending i t) settled pending
   unfolding maybePersist view-of
-  persisted-alike i t = by-tests (broken l settled pending) (mayPersist l settled i t)
-    where
-      by-tests : (b c : Bool) → AfterDecided (Alike l settled pending) (decideUnless b (yesIf c (withPersisted l i))) settled pending
-      by-tests true c = tt
-      by-tests false true = (refl, refl)
-      by-tests false false = tt
+  persisted-alike i t =
+      let P : Decided → Type 0 = λ x. AfterDecided (Alike l settled pending) x settled pending in
+      both-ends P (broken l settled pending) tt (both-ends P (mayPersist l settled i t) (refl, refl) tt)
 
   applied-alike : (i : ℕ) → AfterChanged (Alike l settled pending) (appliedTo l settled pending i) settled pending
   unfolding appliedTo view-of
-  applied-alike i = by-tests (broken l settled pending) (eqb i 0) (ltb (min (l .committed .0) (l .persisted .0)) i || ltb i (l .applied .0))
-    where
-      by-tests : (a b c : Bool) → AfterChanged (Alike l settled pending) (refuseIf a brokenState (changedIf b (changed.Now l) (refuseIf c outOfRange (changed.Now (withApplied l i))))) settled pending
-      by-tests true b c = tt
-      by-tests false true c = (refl, refl)
-      by-tests false false true = tt
-      by-tests false false false = (refl, refl)
+  applied-alike i =
+      let P : Changed → Type 0 = λ x. AfterChanged (Alike l settled pending) x settled pending in
+      both-ends P (broken l settled pending) tt
+      (both-ends P (eqb i 0) (refl, refl) (both-ends P (ltb (min (l .committed .0) (l .persisted .0)) i || ltb i (l .applied .0)) tt (refl, refl)))
 
   settled-alike : (i t : ℕ) → AfterChanged (Alike l settled pending) (settleAnswer l settled pending i t) (settleStore (settleAnswer l settled pending i t) l settled pending) pending
   settled-alike i t = by-answer (settleAnswer l settled pending i t) refl

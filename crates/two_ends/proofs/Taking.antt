@@ -1,7 +1,7 @@
 -- A message of the leader's at the follower: when it is accepted, and that what stands between the two ends stands after it, and what the follower had of the leader's it keeps.
 use Prim.Native.Nat.{ℕ, _+_, _≤_, _<_, min, max}
 use mathlib.Core.Path.{_≡_, refl, sym, ap, ap₂, subst, _∙_}
-use mathlib.Core.Bool.{Bool, true, false, not, _||_}
+use mathlib.Core.Bool.{Bool, true, false, not, _||_, cond}
 use mathlib.Core.List.{List}
 use mathlib.Core.Logic.{_⊎_, inl, inr, ⊎-elim}
 use native.Mathlib.Omega.{arith}
@@ -11,7 +11,7 @@ use lib.ListN.{length, getD}
 use Rattle.units.specs.Units.{indexLimit}
 use Rattle.units.specs.declared.Index.{Index}
 use Rattle.rules.specs.Log.{Entry, nothing, Log as Abstract, last, entry-at, term-of, Matching, Agree}
-use Rattle.rules.specs.Receiver.{success, contains, step-2, commit-if, step-5, receiver}
+use Rattle.rules.specs.Receiver.{success, contains, step-5, receiver}
 use Rattle.raft_log.specs.declared.Log.{Log}
 use Rattle.raft_log.specs.declared.Appended.{Appended}
 use Rattle.raft_log.specs.declared.Appended.the-variants as appended
@@ -52,7 +52,7 @@ keeps-trans xs f g h a b = record {
 
 -- ---- a message that is taken in: the paper's steps
 
-success-is : (b : Bool) (d e : Abstract) (i j : ℕ) → step-2 b (success d i) ≡ success e j → (b ≡ true) × ((d ≡ e) × (i ≡ j))
+success-is : (b : Bool) (d e : Abstract) (i j : ℕ) → cond b (success d i) reply-false ≡ success e j → (b ≡ true) × ((d ≡ e) × (i ≡ j))
 success-is true d e i j h = (refl, (cc, cc))
 success-is false d e i j h = (cc, (cc, cc))
 
@@ -85,7 +85,7 @@ step-5-below : (c lc n : ℕ) → (step-5 c lc n ≤ c) ⊎ (step-5 c lc n ≤ n
 unfolding step-5
 step-5-below c lc n = by-test (ltb c lc)
   where
-    by-test : (b : Bool) → (commit-if b (min lc n) c ≤ c) ⊎ (commit-if b (min lc n) c ≤ n)
+    by-test : (b : Bool) → (cond b (min lc n) c ≤ c) ⊎ (cond b (min lc n) c ≤ n)
     by-test true = inr (omega arith)
     by-test false = inl (omega arith)
 

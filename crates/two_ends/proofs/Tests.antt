@@ -1,20 +1,22 @@
 -- The table of `maybe_append`, read backwards: which tests an answer says were passed.
 use Prim.Native.Nat.{ℕ}
 use mathlib.Core.Path.{_≡_, refl, sym, ap}
-use mathlib.Core.Bool.{Bool, true, false}
+use mathlib.Core.Bool.{Bool, true, false, cond}
 use mathlib.Core.Logic.{_⊎_, inl, inr}
 use native.Mathlib.Omega.{arith}
-use Rattle.units.specs.Refusals.{brokenState, misnumberedRun, zeroTerm, outsideLog, mismatch, cutsCommitted, noRoom}
+use Rattle.units.specs.Refusals.{brokenState, misnumberedRun, zeroTerm, cutsCommitted}
 use Rattle.units.specs.declared.Index.{Index}
+use Rattle.units.proofs.Cond.{past, taken}
 use Rattle.raft_log.specs.declared.Log.{Log}
 use Rattle.raft_log.specs.declared.Appended.{Appended}
 use Rattle.raft_log.specs.declared.Appended.the-variants.{Done, Refused}
 use Rattle.raft_log.specs.Words.{runCount}
 use Rattle.raft_log.specs.State.{broken}
 use Rattle.raft_log.specs.Run.{misnumbered, zeroTermIn}
-use Rattle.raft_log.specs.Append.{afterMessage, outside, mismatched, cuts, overfull, refuseIf, accepted, decide, matchRun, appendAnswer, appendStore}
-use Rattle.log_laws.proofs.Receiving.{no-done, inverted, declined}
+use Rattle.raft_log.specs.Append.{afterMessage, outside, mismatched, cuts, overfull, accepted, decide, matchRun, appendAnswer, appendStore}
+use Rattle.raft_log.proofs.Appending.{no-done}
 use Rattle.two_ends.specs.Follower.{Follower, Message, WellFormed, answer-to, outcome-of, engine, alike, HasRoom}
+use Rattle.log_laws.proofs.Receiving.{other-refusal}
 
 module _ (f : Follower) (m : Message) where
   abbrev n : ℕ
@@ -35,13 +37,13 @@ module _ (f : Follower) (m : Message) where
   pub done-passed : (c k : Index) (a : Log) → answer-to f m ≡ Done c k a → Passed × (accepted (m .idx) n (alike f m) after ≡ Done c k a)
   unfolding appendAnswer matchRun decide
   done-passed c k a e =
-      let t1 = inverted (broken (f .log) (f .settled) (f .pending)) brokenState _ e in
-      let t2 = inverted (misnumbered (m .run) (m .idx)) misnumberedRun _ (t1 .1) in
-      let t3 = inverted (zeroTermIn (m .run)) zeroTerm _ (t2 .1) in
-      let t4 = inverted (outside (f .log) (m .idx) (m .term)) outsideLog _ (t3 .1) in
-      let t5 = inverted (mismatched (f .log) (f .settled) (f .pending) (m .idx) (m .term)) mismatch _ (t4 .1) in
-      let t6 = inverted (cuts (f .log) (m .idx) n (alike f m)) cutsCommitted _ (t5 .1) in
-      let t7 = inverted (overfull after (f .pending)) noRoom _ (t6 .1) in
+      let t1 = past (broken (f .log) (f .settled) (f .pending)) no-done e in
+      let t2 = past (misnumbered (m .run) (m .idx)) no-done (t1 .1) in
+      let t3 = past (zeroTermIn (m .run)) no-done (t2 .1) in
+      let t4 = past (outside (f .log) (m .idx) (m .term)) no-done (t3 .1) in
+      let t5 = past (mismatched (f .log) (f .settled) (f .pending) (m .idx) (m .term)) no-done (t4 .1) in
+      let t6 = past (cuts (f .log) (m .idx) n (alike f m)) no-done (t5 .1) in
+      let t7 = past (overfull after (f .pending)) no-done (t6 .1) in
       (record { whole = t1 .0; formed = (t2 .0, t3 .0); inside = t4 .0; matches = t5 .0; spares = t6 .0; room = t7 .0 }, t7 .1)
 
   pub passed-done : Passed → answer-to f m ≡ accepted (m .idx) n (alike f m) after
@@ -53,33 +55,25 @@ module _ (f : Follower) (m : Message) where
       → (outside (f .log) (m .idx) (m .term) ≡ false) × (mismatched (f .log) (f .settled) (f .pending) (m .idx) (m .term) ≡ false) × (cuts (f .log) (m .idx) n (alike f m) ≡ true)
   unfolding appendAnswer matchRun decide
   six-cuts e =
-      let t1 = declined (broken (f .log) (f .settled) (f .pending)) brokenState cutsCommitted _ (λ q. omega arith) e in
-      let t2 = declined (misnumbered (m .run) (m .idx)) misnumberedRun cutsCommitted _ (λ q. omega arith) (t1 .1) in
-      let t3 = declined (zeroTermIn (m .run)) zeroTerm cutsCommitted _ (λ q. omega arith) (t2 .1) in
-      let t4 = declined (outside (f .log) (m .idx) (m .term)) outsideLog cutsCommitted _ (λ q. omega arith) (t3 .1) in
-      let t5 = declined (mismatched (f .log) (f .settled) (f .pending) (m .idx) (m .term)) mismatch cutsCommitted _ (λ q. omega arith) (t4 .1) in
-      (t4 .0, t5 .0, by-test (cuts (f .log) (m .idx) n (alike f m)) (t5 .1))
-    where
-      by-test : (b : Bool) → refuseIf b cutsCommitted (refuseIf (overfull after (f .pending)) noRoom (accepted (m .idx) n (alike f m) after)) ≡ Refused cutsCommitted → b ≡ true
-      by-test true h = refl
-      by-test false h = absurd (no-done (sym (declined (overfull after (f .pending)) noRoom cutsCommitted _ (λ q. omega arith) h .1)))
+      let t1 = past (broken (f .log) (f .settled) (f .pending)) (other-refusal (λ q. omega arith)) e in
+      let t2 = past (misnumbered (m .run) (m .idx)) (other-refusal (λ q. omega arith)) (t1 .1) in
+      let t3 = past (zeroTermIn (m .run)) (other-refusal (λ q. omega arith)) (t2 .1) in
+      let t4 = past (outside (f .log) (m .idx) (m .term)) (other-refusal (λ q. omega arith)) (t3 .1) in
+      let t5 = past (mismatched (f .log) (f .settled) (f .pending) (m .idx) (m .term)) (other-refusal (λ q. omega arith)) (t4 .1) in
+      (t4 .0, t5 .0, taken (cuts (f .log) (m .idx) n (alike f m)) (λ h. no-done (sym (past (overfull after (f .pending)) (other-refusal (λ q. omega arith)) h .1))) (t5 .1) .0)
 
   pub one-broken : answer-to f m ≡ Refused brokenState → broken (f .log) (f .settled) (f .pending) ≡ true
   unfolding appendAnswer matchRun decide
-  one-broken e = by-test (broken (f .log) (f .settled) (f .pending)) e
+  one-broken e = taken (broken (f .log) (f .settled) (f .pending)) rest e .0
     where
-      rest : refuseIf (misnumbered (m .run) (m .idx)) misnumberedRun (refuseIf (zeroTermIn (m .run)) zeroTerm (matchRun (f .log) (f .settled) (f .pending) (m .idx) (m .term) (m .commit) (m .run) n)) ≡ Refused brokenState → ⊥
+      rest : cond (misnumbered (m .run) (m .idx)) (Refused misnumberedRun) (cond (zeroTermIn (m .run)) (Refused zeroTerm) (matchRun (f .log) (f .settled) (f .pending) (m .idx) (m .term) (m .commit) (m .run) n)) ≡ Refused brokenState → ⊥
       rest h =
-          let t2 = declined (misnumbered (m .run) (m .idx)) misnumberedRun brokenState _ (λ q. omega arith) h in
-          let t3 = declined (zeroTermIn (m .run)) zeroTerm brokenState _ (λ q. omega arith) (t2 .1) in
-          let t4 = declined (outside (f .log) (m .idx) (m .term)) outsideLog brokenState _ (λ q. omega arith) (t3 .1) in
-          let t5 = declined (mismatched (f .log) (f .settled) (f .pending) (m .idx) (m .term)) mismatch brokenState _ (λ q. omega arith) (t4 .1) in
-          let t6 = declined (cuts (f .log) (m .idx) n (alike f m)) cutsCommitted brokenState _ (λ q. omega arith) (t5 .1) in
-          no-done (sym (declined (overfull after (f .pending)) noRoom brokenState _ (λ q. omega arith) (t6 .1) .1))
-
-      by-test : (b : Bool) → refuseIf b brokenState (refuseIf (misnumbered (m .run) (m .idx)) misnumberedRun (refuseIf (zeroTermIn (m .run)) zeroTerm (matchRun (f .log) (f .settled) (f .pending) (m .idx) (m .term) (m .commit) (m .run) n))) ≡ Refused brokenState → b ≡ true
-      by-test true h = refl
-      by-test false h = absurd (rest h)
+          let t2 = past (misnumbered (m .run) (m .idx)) (other-refusal (λ q. omega arith)) h in
+          let t3 = past (zeroTermIn (m .run)) (other-refusal (λ q. omega arith)) (t2 .1) in
+          let t4 = past (outside (f .log) (m .idx) (m .term)) (other-refusal (λ q. omega arith)) (t3 .1) in
+          let t5 = past (mismatched (f .log) (f .settled) (f .pending) (m .idx) (m .term)) (other-refusal (λ q. omega arith)) (t4 .1) in
+          let t6 = past (cuts (f .log) (m .idx) n (alike f m)) (other-refusal (λ q. omega arith)) (t5 .1) in
+          no-done (sym (past (overfull after (f .pending)) (other-refusal (λ q. omega arith)) (t6 .1) .1))
 
   -- a malformed message gets 2 or 3, where the state rules hold
   pub malformed-refused : broken (f .log) (f .settled) (f .pending) ≡ false → (WellFormed m → ⊥) → (answer-to f m ≡ Refused misnumberedRun) ⊎ (answer-to f m ≡ Refused zeroTerm)

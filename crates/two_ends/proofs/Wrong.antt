@@ -5,7 +5,7 @@ use mathlib.Core.Logic.{inl}
 use native.Mathlib.Omega.{arith}
 use lib.Dec.{lit≤}
 use Rattle.raft_log.proofs.States.{not-both}
-use Rattle.log_laws.proofs.Receiving.{no-done}
+use Rattle.raft_log.proofs.Appending.{no-done}
 use Rattle.two_ends.specs.Follower.{arrives}
 use Rattle.two_ends.specs.Leader.{CutFrom}
 use Rattle.two_ends.specs.TwoEnds.{Theorem}

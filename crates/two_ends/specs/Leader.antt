@@ -2,8 +2,8 @@
 use Prim.Native.Nat.{ℕ, _+_, _≤_}
 use mathlib.Core.Path.{_≡_}
 use mathlib.Core.List.{List, [], _∷_}
-use lib.ListN.{length, take, drop}
-use Rattle.rules.specs.Log.{Entry, Log, term-of}
+use lib.ListN.{length}
+use Rattle.rules.specs.Log.{Entry, Log, term-of, records-after}
 use Rattle.two_ends.specs.Follower.{Message}
 
 -- The list as a log: it starts with (0, 0), which "comes before every list".
@@ -15,11 +15,7 @@ unfoldable pub as-run : ℕ → List Entry → List ℕ
 as-run i [] = []
 as-run i (e ∷ es) = i ∷ e .term ∷ e .body ∷ as-run (i + 1) es
 
--- The n records after idx.
-abbrev pub records-after : List Entry → ℕ → ℕ → List Entry
-records-after xs idx n = take n (drop idx xs)
-
--- The message with them, and any commit number. The previous term at idx 0 is 0.
+-- The message with the n records after idx, and any commit number. The previous term at idx 0 is 0.
 unfoldable pub cut : List Entry → ℕ → ℕ → ℕ → Message
 cut xs idx n commit = record { idx = idx; term = term-of (whole-list xs) idx; commit = commit; run = as-run (idx + 1) (records-after xs idx n) }
 

@@ -1,6 +1,6 @@
 -- Two ends to try the promise on, and receivers that must not keep it. A reader must know: each of these is the engine with one thing wrong; that `Theorem` fails of it is proved in proofs/Wrong.antt.
 use Prim.Native.Nat.{ℕ, _+_, max}
-use mathlib.Core.Bool.{true}
+use mathlib.Core.Bool.{true, cond}
 use mathlib.Core.List.{List, [], _∷_}
 use Rattle.units.specs.Units.{indexOf, termOf}
 use Rattle.units.specs.Refusals.{brokenState, misnumberedRun, zeroTerm, mismatch}
@@ -12,7 +12,7 @@ use Rattle.raft_log.specs.declared.Appended.the-variants.{Done, Refused}
 use Rattle.raft_log.specs.Words.{runCount}
 use Rattle.raft_log.specs.State.{broken}
 use Rattle.raft_log.specs.Run.{misnumbered, zeroTermIn}
-use Rattle.raft_log.specs.Append.{withCommitted, cutIf, commitUp, mismatched, refuseIf, decide}
+use Rattle.raft_log.specs.Append.{withCommitted, cutIf, commitUp, mismatched, decide}
 use Rattle.raft_log.specs.Commit.{withPersisted}
 use Rattle.raft_log.specs.Setup.{fresh}
 use Rattle.two_ends.specs.Follower.{Follower, committed, Message, Receiver, answer-to, outcome-of, alike}
@@ -104,8 +104,8 @@ persisted-stays f m = outcome-of f m (accepting (λ conflict last after. Done co
 abbrev pub no-refusal-4 : Receiver
 no-refusal-4 f m =
     outcome-of f m
-    (refuseIf (broken (f .log) (f .settled) (f .pending)) brokenState
-    (refuseIf (misnumbered (m .run) (m .idx)) misnumberedRun
-    (refuseIf (zeroTermIn (m .run)) zeroTerm
-    (refuseIf (mismatched (f .log) (f .settled) (f .pending) (m .idx) (m .term)) mismatch
+    (cond (broken (f .log) (f .settled) (f .pending)) (Refused brokenState)
+    (cond (misnumbered (m .run) (m .idx)) (Refused misnumberedRun)
+    (cond (zeroTermIn (m .run)) (Refused zeroTerm)
+    (cond (mismatched (f .log) (f .settled) (f .pending) (m .idx) (m .term)) (Refused mismatch)
     (decide (f .log) (f .pending) (m .idx) (m .commit) (runCount (m .run)) (alike f m))))))

@@ -1,6 +1,6 @@
 -- The table of refusals of document 01. A reader must know: each number stands here once, under a name, with its line of the table ("Given exactly when") beside it; a promise that refuses cites the name. `src/refusal.rt` has the same table for the code.
 use Prim.Native.Nat.{ℕ}
-use mathlib.Core.Bool.{Bool, true, false}
+use mathlib.Core.Bool.{Bool, cond}
 use Rattle.units.specs.declared.Check.{Check}
 use Rattle.units.specs.declared.Check.the-variants as check
 
@@ -68,5 +68,9 @@ bothChecks (check.Refused n) next = check.Refused n
 
 -- A rule that holds, or the refusal of its number.
 abbrev pub fineOr : Bool → ℕ → Check
-fineOr true n = check.Fine
-fineOr false n = check.Refused n
+fineOr holds n = cond holds check.Fine (check.Refused n)
+
+-- 01: "An answer that is a refusal ends the call there." The answer where the check finds nothing wrong, else the refusal, as the call's answers say it.
+abbrev pub unless : {A : Type 0} → (ℕ → A) → Check → A → A
+unless refused check.Fine answer = answer
+unless refused (check.Refused n) answer = refused n

@@ -1,35 +1,34 @@
 -- `commit_found` meets its contract: the log's own answer, or the refusal that comes first.
 use borrow.Author.Needs.{needs}
-use mathlib.Core.Path.{_≡_, refl, sym, _∙_}
-use mathlib.Core.Bool.{Bool, true, false}
+use mathlib.Core.Path.{_≡_, sym, _∙_}
+use mathlib.Core.Bool.{true, false}
 use mathlib.Core.List.{List}
 use Prim.Native.Nat.{ℕ}
 use Rattle.units.specs.Refusals.{brokenState}
 use Rattle.units.specs.declared.Index.{Index}
-use Rattle.raft_log.specs.State.{lastOf, broken}
-use Rattle.raft_log.specs.Look.{indexUnless, lookLast}
+use Rattle.units.proofs.Cond.{past, taken}
+use Rattle.units.proofs.Never.{never}
+use Rattle.raft_log.specs.State.{broken}
+use Rattle.raft_log.specs.Look.{lookLast}
 use Rattle.raft_log.specs.declared.Log.{Log}
 use Rattle.raft_log.specs.declared.Placed.the-variants as placed
 use Rattle.leader.proofs.commit_found.Statement.{statement}
 use Rattle.leader.proofs.commit_found.Tie as tie
 
+no-at : {m : ℕ} {i : Index} → placed.Refused m ≡ placed.At i → ⊥
+no-at e = never cc
+
 -- What the log's own answer says of its state.
 module _ (l : Log) (settled pending : List ℕ) where
-  by-test : (b : Bool) (n : ℕ) (i : Index) → indexUnless b n ≡ placed.At i → b ≡ false
-  by-test false n i e = refl
-  by-test true n i e = cc
-
   whole : (i : Index) → lookLast l settled pending ≡ placed.At i → broken l settled pending ≡ false
   unfolding lookLast
-  whole i e = by-test (broken l settled pending) (lastOf l) i e
-
-  by-refusal : (b : Bool) (n m : ℕ) → indexUnless b n ≡ placed.Refused m → (b ≡ true) × (m ≡ brokenState)
-  by-refusal false n m e = (cc, cc)
-  by-refusal true n m e = (refl, cc)
+  whole i e = past (broken l settled pending) no-at e .0
 
   no-log : (m : ℕ) → lookLast l settled pending ≡ placed.Refused m → (broken l settled pending ≡ true) × (m ≡ brokenState)
   unfolding lookLast
-  no-log m e = by-refusal (broken l settled pending) (lastOf l) m e
+  no-log m e =
+      let t = taken (broken l settled pending) (λ at. no-at (sym at)) e in
+      (t .0, cc (t .1))
 
 enum-known-found : tie.Need-enum-known-found
 enum-known-found c = search needs

@@ -2,18 +2,18 @@
 use Prim.Native.Nat.{_-_}
 use native.Mathlib.Omega.{arith}
 use lib.ListN.{length}
-use Rattle.quorum.proofs.Copying.{Copying, copy-begins, copy-more, copy-ends}
+use Rattle.units.proofs.Copying.{Copying, copy-start, copy-next, copy-end}
 use Rattle.quorum.proofs.ids.copy_at.Statement.{statement}
 use Rattle.quorum.proofs.ids.copy_at.Tie as tie
 
 abbrev Inv-loop : tie.InvT-loop
-Inv-loop to₀ at from i₀ to i = Copying to₀ at from to i
+Inv-loop to₀ at from i₀ to i = Copying to₀ at from to (length from) i
 
 abbrev μ-loop : tie.MeasureT-loop
 μ-loop to₀ at from i₀ to i = length from - i
 
 loop-holds : tie.Need-loop-holds Inv-loop μ-loop
-loop-holds c = copy-begins _ _ _
+loop-holds c = copy-start _ _ _ _
 
 mul-to : tie.Need-mul-to Inv-loop μ-loop
 mul-to c = omega arith
@@ -37,13 +37,13 @@ loop-less : tie.Need-loop-less Inv-loop μ-loop
 loop-less c = omega arith
 
 loop-again : tie.Need-loop-again Inv-loop μ-loop
-loop-again c = copy-more (c .before .before .loop .inv) (omega arith) (omega arith)
+loop-again c = copy-next (c .before .before .loop .inv) (omega arith) (omega arith) (omega arith)
 
 same-length : tie.Need-same-length Inv-loop μ-loop
-same-length c = c .before .loop .inv .same-length
+same-length c = c .before .loop .inv .long
 
 returns : tie.Need-returns Inv-loop μ-loop
-returns c = copy-ends (c .before .loop .inv) (omega arith)
+returns c = copy-end (c .before .loop .inv) (omega arith)
 
 pub copy-at-spec : {M : Type 1} → statement M
 copy-at-spec =

@@ -1,7 +1,7 @@
 -- `copy_words` meets its contract: each turn copies one word more.
 use Prim.Native.Nat.{_-_}
 use native.Mathlib.Omega.{arith}
-use Rattle.raft_log.proofs.Copying.{Copying, copy-start, copy-next, copy-end}
+use Rattle.units.proofs.Copying.{Copying, copy-start, copy-next, copy-end}
 use Rattle.raft_log.proofs.words.copy_words.Statement.{statement}
 use Rattle.raft_log.proofs.words.copy_words.Tie as tie
 

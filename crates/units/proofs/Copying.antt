@@ -1,4 +1,4 @@
--- What the loop of `copy_words` keeps: the first i words are copied, and every other word is as it was.
+-- What a loop that copies n words keeps (`copy_words` of raft_log, `copy_at` of quorum): the first i words are copied, and every other word is as it was.
 use mathlib.Core.Path.{_≡_, refl, sym, ap, _∙_}
 use mathlib.Core.List.{List}
 use Prim.Native.Nat.{ℕ, _+_, _≤_, _<_}
