@@ -7,8 +7,4 @@ pub mod Queue
 pub mod Stays
 pub mod Walk
 pub mod Thin
-pub mod ThinNumber
-pub mod ThinWrite
 pub mod Lent
-pub mod LentNumber
-pub mod LentWrite

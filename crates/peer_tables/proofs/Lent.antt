@@ -52,9 +52,9 @@ use Rattle.quorum.specs.Limits.{rowLimit}
 use Rattle.quorum.specs.declared.rows.Peer.{Peer}
 use Rattle.quorum.proofs.rows.Peer as Pe
 use Rattle.quorum.proofs.rows.Peer.Laws as Pe′
-use Rattle.quorum.proofs.ByValue.{ByValue, of-struct, Value, At, fits-at, made}
-use Rattle.quorum.proofs.Exact.{Promise, Exact, calls, Params, valued, End, ends}
-use Rattle.quorum.proofs.Exact as exact
+use Rattle.units.proofs.ByValue.{ByValue, of-struct, Value, At, fits-at, made}
+use Rattle.units.proofs.Exact.{Promise, Exact, calls, Params, valued, End, ends}
+use Rattle.units.proofs.Exact as exact
 use Rattle.quorum.proofs.OverRows.{Lent, of-two, asked}
 use Rattle.peer_tables.specs.Table.{rowsIn}
 use Rattle.peer_tables.specs.declared.Table.{Table}

@@ -9,7 +9,5 @@ pub mod Values
 pub mod Answers
 pub mod Gathered
 pub mod Words
-pub mod ByValue
-pub mod Exact
 pub mod OverRows
 pub mod Thin

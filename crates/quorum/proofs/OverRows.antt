@@ -14,8 +14,8 @@ use denote.Slice.{ShrSlice, slice-vals}
 use denote.Signature.{Signature, Slot, plain}
 use Rattle.quorum.specs.Rows.{nobody, valueFor, gathered}
 use Rattle.quorum.specs.declared.rows.Peer.{Peer}
-use Rattle.quorum.proofs.ByValue.{ByValue, of-struct, of-enum, numbers, Value}
-use Rattle.quorum.proofs.Exact.{Promise, always}
+use Rattle.units.proofs.ByValue.{ByValue, of-struct, of-enum, numbers, Value}
+use Rattle.units.proofs.Exact.{Promise, always}
 use Rattle.quorum.proofs.Committed as Co
 use Rattle.quorum.proofs.Committed.Laws as Co′
 use Rattle.quorum.proofs.Verdict as Ve

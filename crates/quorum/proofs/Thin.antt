@@ -33,9 +33,9 @@ use Rattle.quorum.specs.declared.rows.Peer.{Peer}
 use Rattle.quorum.specs.declared.rows.Question.{Question}
 use Rattle.quorum.specs.declared.rows.Question.the-variants as question
 use Rattle.quorum.specs.declared.rows.Rows.{Rows}
-use Rattle.quorum.proofs.ByValue.{ByValue, At, fits-at, made}
-use Rattle.quorum.proofs.Exact.{Promise, always, Exact, calls, Params, valued, shared, Walk, ends}
-use Rattle.quorum.proofs.Exact as exact
+use Rattle.units.proofs.ByValue.{ByValue, At, fits-at, made}
+use Rattle.units.proofs.Exact.{Promise, always, Exact, calls, Params, valued, shared, Walk, ends}
+use Rattle.units.proofs.Exact as exact
 use Rattle.quorum.proofs.OverRows.{rows, questions, of-two, gathers, asked}
 use Rattle.quorum.proofs.rows.Peer as Pe
 use Rattle.quorum.proofs.rows.Question as Qu

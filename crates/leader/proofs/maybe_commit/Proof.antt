@@ -26,8 +26,8 @@ use Rattle.units.proofs.Term as Te
 use Rattle.units.proofs.Term.Laws as Te′
 use Rattle.quorum.specs.Joint.{jointIndex}
 use Rattle.quorum.specs.declared.Committed.{Committed}
-use Rattle.quorum.proofs.ByValue.{ByValue, of-struct, of-enum, fits-at, made}
-use Rattle.quorum.proofs.Exact.{Promise, always, Exact, calls, Params, valued, shared, Walk, ends, meets}
+use Rattle.units.proofs.ByValue.{ByValue, of-struct, of-enum, fits-at, made}
+use Rattle.units.proofs.Exact.{Promise, always, Exact, calls, Params, valued, shared, Walk, ends, meets}
 use Rattle.quorum.proofs.OverRows.{configs, indexes, asked}
 use Rattle.quorum.proofs.joint.JointConfig as Jo
 use Rattle.quorum.proofs.rows.Peer as Pe

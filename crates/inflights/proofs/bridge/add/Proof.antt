@@ -1,29 +1,16 @@
--- `bridge::add` meets its contract, by the walk of `LentWrite`: what it calls is `in_place::add`.
-use Prim.Native.Nat.{ℕ}
-use mathlib.Core.List.{List}
+-- `bridge::add` meets its contract, by `Lent`: what it calls is `in_place::add`.
 use lib.ListN.{length}
-use contract.Running.{givenOf, tables, tablesOf}
-use denote.Triple.Spec.{tripleOf}
-use denote.Triple.Table.{entered, cited}
+use Rattle.units.proofs.Told.{caller-meets}
 use Rattle.inflights.specs.Calls.{added, ringAfter}
 use Rattle.inflights.specs.InPlace.{stepOf}
-use Rattle.inflights.specs.declared.Inflights.{Inflights}
-use Rattle.inflights.specs.declared.Step.{Step}
-use Rattle.inflights.proofs.LentWrite as lent
+use Rattle.inflights.proofs.Lent.{writes}
 use Rattle.inflights.proofs.in_place.add.Symbol as g-def
 use Rattle.inflights.proofs.in_place.add.Met as g-thm
 use Rattle.inflights.proofs.bridge.add.Key as key
-use Rattle.inflights.proofs.bridge.add as f
 use Rattle.inflights.proofs.bridge.add.Statement as stated
 use Rattle.inflights.proofs.bridge.add.Code as code
 
-abbrev G : Inflights → List ℕ → ℕ → Step
-G w ring n = stepOf w (added w (length ring))
-
 pub add-spec : {M : Type 1} → stated.statement M
-unfolding code.routine tablesOf
+unfolding code.routine
 add-spec 𝓤 H 𝓜 𝓖 𝓡 =
-    entered 𝓤 H (tripleOf 𝓤 H (𝓖 .A) f.signature (f.spec 𝓤 H (𝓖 .A) (𝓜 .mem) (𝓡 .run)))
-    (tables 𝓤 H 𝓜 𝓡 code.env .C) (tables 𝓤 H 𝓜 𝓡 code.env .Λ) key.name code.function (code.unfolded 𝓤 H 𝓜 𝓡)
-    (lent.meets 𝓤 H (𝓖 .A) (givenOf 𝓤 H 𝓜 𝓖) G ringAfter g-def.name (tablesOf 𝓤 H 𝓜 (tables 𝓤 H 𝓜 𝓡 code.env))
-    (cited 𝓤 H (lent.Callee 𝓤 H (𝓖 .A) G ringAfter) 𝓜 𝓡 code.env g-def.name g-def.routine code.calls-inflights·in-place·add (g-thm.met 𝓤 H 𝓜 𝓖 𝓡)))
+    caller-meets (writes (λ w ring n. stepOf w (added w (length ring))) ringAfter) 𝓤 H 𝓜 𝓖 𝓡 code.env key.name g-def.name (code.unfolded 𝓤 H 𝓜 𝓡) g-def.routine code.calls-inflights·in-place·add (g-thm.met 𝓤 H 𝓜 𝓖 𝓡)

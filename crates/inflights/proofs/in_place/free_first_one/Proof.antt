@@ -1,28 +1,15 @@
--- `in_place::free_first_one` meets its contract, by the walk of `Thin`: what it calls is `steps::free_first_one`.
-use Prim.Native.Nat.{ℕ}
-use mathlib.Core.List.{List}
-use contract.Running.{givenOf, tables, tablesOf}
-use denote.Triple.Spec.{tripleOf}
-use denote.Triple.Table.{entered, cited}
+-- `in_place::free_first_one` meets its contract, by `Thin`: what it calls is `steps::free_first_one`.
+use Rattle.units.proofs.Told.{caller-meets}
 use Rattle.inflights.specs.Calls.{freedFirst}
 use Rattle.inflights.specs.InPlace.{stepOf}
-use Rattle.inflights.specs.declared.Inflights.{Inflights}
-use Rattle.inflights.specs.declared.Step.{Step}
-use Rattle.inflights.proofs.Thin as thin
+use Rattle.inflights.proofs.Thin.{reads}
 use Rattle.inflights.proofs.steps.free_first_one.Symbol as g-def
 use Rattle.inflights.proofs.steps.free_first_one.Met as g-thm
 use Rattle.inflights.proofs.in_place.free_first_one.Key as key
-use Rattle.inflights.proofs.in_place.free_first_one as f
 use Rattle.inflights.proofs.in_place.free_first_one.Statement as stated
 use Rattle.inflights.proofs.in_place.free_first_one.Code as code
 
-abbrev G : Inflights → List ℕ → Step
-G w ring = stepOf w (freedFirst w ring)
-
 pub free-first-one-spec : {M : Type 1} → stated.statement M
-unfolding code.routine tablesOf
+unfolding code.routine
 free-first-one-spec 𝓤 H 𝓜 𝓖 𝓡 =
-    entered 𝓤 H (tripleOf 𝓤 H (𝓖 .A) f.signature (f.spec 𝓤 H (𝓖 .A) (𝓜 .mem) (𝓡 .run)))
-    (tables 𝓤 H 𝓜 𝓡 code.env .C) (tables 𝓤 H 𝓜 𝓡 code.env .Λ) key.name code.function (code.unfolded 𝓤 H 𝓜 𝓡)
-    (thin.meets 𝓤 H (𝓖 .A) (givenOf 𝓤 H 𝓜 𝓖) G g-def.name (tablesOf 𝓤 H 𝓜 (tables 𝓤 H 𝓜 𝓡 code.env))
-    (cited 𝓤 H (thin.Callee 𝓤 H (𝓖 .A) G) 𝓜 𝓡 code.env g-def.name g-def.routine code.calls-inflights·steps·free-first-one (g-thm.met 𝓤 H 𝓜 𝓖 𝓡)))
+    caller-meets (reads (λ w ring. stepOf w (freedFirst w ring))) 𝓤 H 𝓜 𝓖 𝓡 code.env key.name g-def.name (code.unfolded 𝓤 H 𝓜 𝓡) g-def.routine code.calls-inflights·steps·free-first-one (g-thm.met 𝓤 H 𝓜 𝓖 𝓡)

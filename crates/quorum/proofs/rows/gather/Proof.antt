@@ -43,8 +43,8 @@ use Rattle.quorum.specs.Rows.{nobody, idOf, valueFor, gathered}
 use Rattle.quorum.specs.declared.rows.Peer.{Peer}
 use Rattle.quorum.specs.declared.rows.Question.{Question}
 use Rattle.quorum.specs.declared.rows.Rows.{Rows}
-use Rattle.quorum.proofs.ByValue.{numbers, At, fits-at, made}
-use Rattle.quorum.proofs.Exact.{Exact, calls, Params, valued, shared, End, ends, meets}
+use Rattle.units.proofs.ByValue.{numbers, At, fits-at, made}
+use Rattle.units.proofs.Exact.{Exact, calls, Params, valued, shared, End, ends, meets}
 use Rattle.quorum.proofs.OverRows.{peers, questions, rows, Lent, reads-row, reads-value, takes-smaller, gathers}
 use Rattle.quorum.proofs.Padded.{length-padded, padded-none, filled-more, filled-all}
 use Rattle.quorum.proofs.Words.{words, holds, blank, blank-typed, words-are, stores-word}

@@ -27,8 +27,8 @@ use denote.Struct.Laws as LL
 use denote.Triple.Walked.{needs}
 use Rattle.quorum.specs.Rows.{nobody}
 use Rattle.quorum.specs.declared.rows.Peer.{Peer}
-use Rattle.quorum.proofs.ByValue.{numbers, fits-at}
-use Rattle.quorum.proofs.Exact.{Params, valued, shared, Walk, ends, meets}
+use Rattle.units.proofs.ByValue.{numbers, fits-at}
+use Rattle.units.proofs.Exact.{Params, valued, shared, Walk, ends, meets}
 use Rattle.quorum.proofs.OverRows.{peers, reads-row}
 use Rattle.quorum.proofs.rows.Peer as T
 use Rattle.quorum.proofs.rows.Peer.Laws as T′
