@@ -1,5 +1,5 @@
 -- The check of a run: what its one pass keeps, and what its answer says of the two tests, each with facts in place of the tests.
-use mathlib.Core.Path.{_≡_, refl, sym, ap, subst}
+use mathlib.Core.Path.{_≡_, refl, sym, ap, subst, _∙_}
 use mathlib.Core.Bool.{Bool, true, false, not, cond}
 use mathlib.Core.List.{List}
 use mathlib.Core.Logic.{_⊎_, inl, inr}
@@ -10,6 +10,7 @@ use lib.ListN.{length}
 use borrow.Author.Tests.{eq-eqb, ne-eqb, le-leb, eqb-true, leb-true}
 use Rattle.units.specs.Units.{indexLimit}
 use Rattle.units.specs.Refusals.{misnumberedRun, zeroTerm}
+use Rattle.units.proofs.Cond.{taken}
 use Rattle.units.proofs.Never.{never}
 use Rattle.raft_log.specs.declared.run.Checked.{Checked}
 use Rattle.raft_log.specs.declared.run.Checked.the-variants.{Records, Refused}
@@ -64,30 +65,25 @@ module _ (run : List ℕ) (idx n : ℕ) where
 
 -- ---- the check by the pass
 
-scan-bad : (a b : Bool) (x : Checked) → (cond a (cond b 0 zeroTerm) misnumberedRun ≡ 0 → ⊥)
-    → cond a (cond b x (Refused zeroTerm)) (Refused misnumberedRun) ≡ Refused (cond a (cond b 0 zeroTerm) misnumberedRun)
-scan-bad true true x h = absurd (h refl)
-scan-bad true false x h = refl
-scan-bad false b x h = refl
-
-scan-good : (a b : Bool) (x : Checked) → cond a (cond b 0 zeroTerm) misnumberedRun ≡ 0
-    → cond a (cond b x (Refused zeroTerm)) (Refused misnumberedRun) ≡ x
-scan-good true true x h = refl
-scan-good true false x h = absurd (omega arith)
-scan-good false b x h = absurd (omega arith)
+-- both go by the same two tests, so the check is what the mark says
+by-mark : (a b : Bool) (x : Checked) → let mark = cond a (cond b 0 zeroTerm) misnumberedRun in
+    cond a (cond b x (Refused zeroTerm)) (Refused misnumberedRun) ≡ cond (eqb mark 0) x (Refused mark)
+by-mark true true x = refl
+by-mark true false x = refl
+by-mark false b x = refl
 
 module _ (run : List ℕ) (idx : ℕ) (whole : length run % runWords ≡ 0) (limited : idx + runCount run ≤ indexLimit) where
-  pub run-bad : (scanRun run idx (runCount run) ≡ 0 → ⊥) → checkRun run idx ≡ Refused (scanRun run idx (runCount run))
+  check-mark : checkRun run idx ≡ cond (eqb (scanRun run idx (runCount run)) 0) (Records (runCount run)) (Refused (scanRun run idx (runCount run)))
   unfolding checkRun numbered termsSet scanRun
-  run-bad h =
+  check-mark =
       simp (eq-eqb _ _ whole, le-leb _ _ limited)
-      (scan-bad (none (misplaced run idx) (runCount run)) (none (zeroAt run) (runCount run)) (Records (runCount run)) h)
+      (by-mark (none (misplaced run idx) (runCount run)) (none (zeroAt run) (runCount run)) (Records (runCount run)))
+
+  pub run-bad : (scanRun run idx (runCount run) ≡ 0 → ⊥) → checkRun run idx ≡ Refused (scanRun run idx (runCount run))
+  run-bad h = check-mark ∙ simp (ne-eqb _ _ h)
 
   pub run-good : scanRun run idx (runCount run) ≡ 0 → checkRun run idx ≡ Records (runCount run)
-  unfolding checkRun numbered termsSet scanRun
-  run-good h =
-      simp (eq-eqb _ _ whole, le-leb _ _ limited)
-      (scan-good (none (misplaced run idx) (runCount run)) (none (zeroAt run) (runCount run)) (Records (runCount run)) h)
+  run-good h = check-mark ∙ simp (eq-eqb _ _ h)
 
 -- ---- the check and the two tests
 
@@ -107,10 +103,6 @@ pub record Passed (run : List ℕ) (idx n : ℕ) : Type 0 where
 
 no-records : {r n : ℕ} → Refused r ≡ Records n → ⊥
 no-records h = never cc
-
-or-inv : (b : Bool) (r : ℕ) (x : Checked) {n : ℕ} → cond b x (Refused r) ≡ Records n → (b ≡ true) × (x ≡ Records n)
-or-inv true r x h = (refl, h)
-or-inv false r x h = absurd (no-records h)
 
 or-refused : (a b : Bool) (n : ℕ) {r : ℕ} → cond a (cond b (Records n) (Refused zeroTerm)) (Refused misnumberedRun) ≡ Refused r
     → ((not a ≡ true) × (r ≡ misnumberedRun)) ⊎ ((not a ≡ false) × (not b ≡ true) × (r ≡ zeroTerm))
@@ -133,8 +125,8 @@ module _ (run : List ℕ) (idx : ℕ) where
   pub run-passed : {n : ℕ} → checkRun run idx ≡ Records n → Passed run idx n
   unfolding checkRun termsSet
   run-passed {n} h =
-      let a = or-inv (numbered run idx) misnumberedRun (cond (termsSet run) (Records (runCount run)) (Refused zeroTerm)) h in
-      let b = or-inv (termsSet run) zeroTerm (Records (runCount run)) (a .1) in
+      let a = taken (numbered run idx) no-records h in
+      let b = taken (termsSet run) no-records (a .1) in
       let e : runCount run ≡ n = cc in
       record {
         count = sym e;

@@ -6,6 +6,7 @@ use Prim.Native.Nat.{ℕ, zero, suc, _+_, _-_, _≤_, _<_}
 use native.Mathlib.Omega.{arith}
 use lib.Dec.{eqb, ltb}
 use borrow.Author.Tests.{eq-eqb, ne-eqb, ltb-true, ltb-false}
+use Rattle.units.proofs.Cond.{either-end}
 use Rattle.raft_log.specs.Words.{firstFrom}
 use Rattle.raft_log.proofs.States.{not-both}
 
@@ -56,24 +57,24 @@ pub record Found (p : ℕ → Bool) (k n r : ℕ) : Type 0 where
   pub hit : r < k + n → p r ≡ true
   pub passed : (j : ℕ) → k ≤ j → j < r → p j ≡ false
 
-found-step : {p : ℕ → Bool} {k n r : ℕ} (b : Bool) → p k ≡ b → Found p (k + 1) n r → Found p k (suc n) (cond b k r)
-found-step true t f = record { within = omega arith; hit = λ h. t; passed = λ j h w. absurd (omega arith) }
-found-step {p} {k} false t f = record {
-  within = omega (arith, f .within);
-  hit = λ h. f .hit (omega arith);
-  passed = λ j h w.
-      ⊎-elim
-      (λ lt. f .passed j (omega arith) w)
-      (λ le.
-      let e : k ≡ j = omega arith in
-      subst (λ (x : ℕ). p x ≡ false) e t)
-      (below-or-not k j);
-}
-
 pub found : (p : ℕ → Bool) (k n : ℕ) → Found p k n (firstFrom p k n)
 unfolding firstFrom
 found p k zero = record { within = omega arith; hit = λ h. absurd (omega arith); passed = λ j h w. absurd (omega arith) }
-found p k (suc n) = found-step (p k) refl (found p (k + 1) n)
+found p k (suc n) =
+    let f = found p (k + 1) n in
+    either-end (Found p k (suc n)) (p k)
+    (λ t. record { within = omega arith; hit = λ h. t; passed = λ j h w. absurd (omega arith) })
+    (λ t. record {
+      within = omega (arith, f .within);
+      hit = λ h. f .hit (omega arith);
+      passed = λ j h w.
+          ⊎-elim
+          (λ lt. f .passed j (omega arith) w)
+          (λ le.
+          let e : k ≡ j = omega arith in
+          subst (λ (x : ℕ). p x ≡ false) e t)
+          (below-or-not k j);
+    })
 
 -- and it is the only such place
 pub found-is : {p : ℕ → Bool} {n r s : ℕ} → Found p 0 n r → Found p 0 n s → r ≡ s

@@ -1,17 +1,16 @@
 -- The state rules as a test and as facts say the same; and the term at an index, by where the index stands.
 use mathlib.Core.Path.{_≡_, refl, sym, ap, _∙_}
-use mathlib.Core.Bool.{Bool, true, false, not, _&&_, false≢true}
+use mathlib.Core.Bool.{Bool, true, false, not, _&&_, false≢true, and-eq-true-iff}
 use mathlib.Core.List.{List}
 use Prim.Native.Nat.{ℕ, _-_, _≤_, _<_}
 use native.Mathlib.Omega.{arith}
-use borrow.Author.Tests.{lt-ltb, le-ltb, le-leb, eq-eqb, ne-eqb, ltb-true, leb-true}
+use borrow.Author.Tests.{lt-ltb, le-ltb, le-leb, eq-eqb, ne-eqb, ltb-true, leb-true, not-false}
 use Rattle.raft_log.specs.declared.Log.{Log}
 use Rattle.raft_log.specs.Words.{storeTerm}
 use Rattle.raft_log.specs.State.{Good, stateOk, broken, termAt}
 
 pub split : (a b : Bool) → a && b ≡ true → (a ≡ true) × (b ≡ true)
-split true b h = (refl, h)
-split false b h = absurd (false≢true h)
+split a b = and-eq-true-iff a b .0
 
 -- a test that cannot be true is false
 pub refuted : (b : Bool) → (b ≡ true → ⊥) → b ≡ false
@@ -94,12 +93,9 @@ module _ (l : Log) (settled pending : List ℕ) where
     term-beyond h k m =
         simp (le-ltb i (l .start .0) (omega arith), ne-eqb i (l .start .0) (omega arith), le-ltb _ _ k, le-ltb _ _ m)
 
-  -- what a passed, or failed, check of the state tells
-  pub passed : (told : Bool) → told ≡ stateOk l settled pending → told ≡ true → Good l settled pending
-  passed told e f = ok-good (sym e ∙ f)
+-- what the code's `!state_ok(..)` tells: the rules, where it says no; and its answer is the test's
+pub passed : {l : Log} {settled pending : List ℕ} {told : Bool} → told ≡ stateOk l settled pending → not told ≡ false → Good l settled pending
+passed {l} {settled} {pending} e f = ok-good l settled pending (sym e ∙ not-false _ f)
 
-  pub sound : (told : Bool) → told ≡ stateOk l settled pending → told ≡ true → broken l settled pending ≡ false
-  sound told e f = ap not (sym e ∙ f)
-
-  pub unsound : (told : Bool) → told ≡ stateOk l settled pending → told ≡ false → broken l settled pending ≡ true
-  unsound told e f = ap not (sym e ∙ f)
+pub test-says : (l : Log) (settled pending : List ℕ) {told b : Bool} → told ≡ stateOk l settled pending → not told ≡ b → broken l settled pending ≡ b
+test-says l settled pending e f = ap not (sym e) ∙ f

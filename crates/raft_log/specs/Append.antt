@@ -104,7 +104,7 @@ appendAnswer l settled pending idx term commit run =
     (cond (zeroTermIn run) (Refused zeroTerm)
     (matchRun l settled pending idx term commit run (runCount run))))
 
--- The pending store after an answer: the run's records from the conflict on, each at its place; every other word as it was. Where nothing is cut, nothing is written.
+-- The pending store after an answer: the run's records from the conflict on, each at its place. Where nothing is cut, nothing is written. 01: "A call writes only the records it adds or copies; every other word stays."
 unfoldable pub appendStore : Appended → List ℕ → ℕ → List ℕ → List ℕ
 appendStore (Refused number) pending idx run = pending
 appendStore (Done conflict last l) pending idx run =

@@ -57,7 +57,7 @@ extendAnswer l settled pending run =
     (cond (eqb (length run) 0) (Last (indexOf (lastOf l)) l)
     (extendFrom l pending (firstOf run) (runCount run)))))
 
--- The pending store after an answer: the whole run from its first index on; every other word as it was.
+-- The pending store after an answer: the whole run from its first index on. 01: "A call writes only the records it adds or copies; every other word stays."
 unfoldable pub extendStore : Extended → List ℕ → List ℕ → List ℕ
 extendStore (Refused number) pending run = pending
 extendStore (Last last l) pending run = cond (eqb (length run) 0) pending (putRun pending (firstOf run - l .offset .0) run 0 (runCount run))

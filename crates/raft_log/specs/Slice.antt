@@ -59,7 +59,7 @@ nextBounds l settled pending s =
     cond (broken l settled pending) (bounds.Refused brokenState)
     (cond (hasNext l s) (inStore l (nextLow l s) (nextHigh l)) bounds.Empty)
 
--- The words of the records from index low up to, not including, high of a store whose first record is at index first; none where it does not hold them.
+-- 01: "A run is a part of whichever store holds it": the words of the records from index low up to, not including, high of a store whose first record is at index first; none where it does not hold them.
 unfoldable pub storePart : List ℕ → ℕ → ℕ → ℕ → List ℕ
 storePart store first low high =
     cond (leb first low && leb low high && leb (high - first) (room store))

@@ -1,5 +1,5 @@
 -- Where a record stands in a store and in a run. A reader must know: a store holds its records one after the other, two words each, term then body; a run holds triples, index, term, body.
--- The record's width stands here, in `recordWords`, `runWords` and the accessors, and nowhere else.
+-- The record's width stands here, in `recordWords`, `runWords` and the accessors, and nowhere else. In all these files `cond test a b` is a where the test says yes, else b.
 use Prim.Native.Nat.{ℕ, zero, suc, _+_, _*_, _/_}
 use mathlib.Core.Bool.{Bool, not, cond}
 use mathlib.Core.List.{List, [], _∷_}
@@ -15,15 +15,15 @@ recordWords = 2
 abbrev pub runWords : ℕ
 runWords = 3
 
--- How many whole records a store has room for; a spare word is never used.
+-- How many whole records a store has room for; a spare word is never used. 01: "both stores long enough" is said by it.
 abbrev pub room : List ℕ → ℕ
 room s = length s / recordWords
 
--- The term of record k of a store, counted from 0; 0 past its end.
+-- The term of record k of a store, counted from 0; 0 past its end. 01: "two words a record, term then body number".
 abbrev pub storeTerm : List ℕ → ℕ → ℕ
 storeTerm s k = getD s (k * recordWords) 0
 
--- How many whole records a run has.
+-- How many whole records a run has: the count of 01's "idx + count".
 abbrev pub runCount : List ℕ → ℕ
 runCount run = length run / runWords
 
@@ -47,7 +47,7 @@ recordOf run k = runTerm run k ∷ runBody run k ∷ []
 abbrev pub putRecord : List ℕ → ℕ → List ℕ → List ℕ
 putRecord s at words = sets s (at * recordWords) words
 
--- A store with the n records of a run from record k on in place of its own from record `at` on; every other word stays.
+-- A store with the n records of a run from record k on in place of its own from record `at` on. 01: "A call writes only the records it adds or copies; every other word stays."
 unfoldable pub putRun : List ℕ → ℕ → List ℕ → ℕ → ℕ → List ℕ
 putRun s at run k zero = s
 putRun s at run k (suc n) = putRun (putRecord s at (recordOf run k)) (at + 1) run (k + 1) n

@@ -5,8 +5,11 @@ use crate::Log;
 use crate::run::Checked;
 use crate::run::check_run;
 use crate::state::larger;
+use crate::state::last_of;
 use crate::state::state_ok;
 use crate::state::term_at;
+use crate::words::room;
+use crate::words::run_index;
 use crate::words::same_terms;
 use units::Index;
 use units::refusal::BROKEN_STATE;
@@ -18,7 +21,8 @@ use units::refusal::OUT_OF_RANGE;
 use units::refusal::OUTSIDE_LOG;
 use units::smaller;
 ghost use mathlib.Core.Path.{_≡_};
-ghost use Prim.Native.Nat.{_+_, _-_, _≤_, _<_, _^_, min};
+ghost use Prim.Native.Nat.{_+_, _-_, _≤_, min};
+ghost use Rattle.units.specs.Units.{wordMax, indexLimit};
 ghost use Rattle.raft_log.specs.Words.{room, runCount, firstFrom};
 ghost use Rattle.raft_log.specs.State.{Good, lastOf};
 ghost use Rattle.raft_log.specs.Run.{zeroAt};
@@ -36,7 +40,7 @@ fn conflict_across(
     gap: u64,
     held: u64,
 ) -> u64
-    requires { ⌜ (n ≤ runCount (now run)) × (idx + n < 2 ^ 64) ⌝ }
+    requires { ⌜ (n ≤ runCount (now run)) × (idx + n ≤ wordMax) ⌝ }
     requires { ⌜ Good log (now settled) (now pending) ⌝ }
     requires { ⌜ (log .start .0 ≤ idx) × (idx ≤ lastOf log) ⌝ }
     requires { ⌜ firstFrom (zeroAt (now run)) 0 n ≡ n ⌝ }
@@ -56,14 +60,14 @@ fn conflict_across(
 
 // How many records come before the first that differs. Each store is searched where the run's records would stand in it; past the last record all differ.
 fn first_conflict(log: Log, settled: &[u64], pending: &[u64], idx: u64, run: &[u64], n: u64) -> u64
-    requires { ⌜ (n ≤ runCount (now run)) × (idx + n < 2 ^ 64) ⌝ }
+    requires { ⌜ (n ≤ runCount (now run)) × (idx + n ≤ wordMax) ⌝ }
     requires { ⌜ Good log (now settled) (now pending) ⌝ }
     requires { ⌜ (log .start .0 ≤ idx) × (idx ≤ lastOf log) ⌝ }
     requires { ⌜ firstFrom (zeroAt (now run)) 0 n ≡ n ⌝ }
     ensures { λ r. ⌜ r ≡ firstFrom (differs log (now (settled .entry)) (now (pending .entry)) idx (now (run .entry))) 0 n ⌝ }
 {
     let offset = log.offset.0;
-    let held = smaller(n, offset + log.count - 1 - idx);
+    let held = smaller(n, last_of(log, settled, pending) - idx);
     if offset <= idx + 1 {
         return same_terms(pending, idx + 1 - offset, run, 0, held);
     }
@@ -72,7 +76,7 @@ fn first_conflict(log: Log, settled: &[u64], pending: &[u64], idx: u64, run: &[u
 
 // Refusals 6 and 7, or the log after the message: n records, k of them before the first that differs.
 fn decided(log: Log, pending: &[u64], idx: u64, commit: u64, n: u64, k: u64) -> Appended
-    requires { ⌜ (idx + n < 2 ^ 64 - 1) × (log .count ≤ room (now pending)) ⌝ }
+    requires { ⌜ (idx + n ≤ indexLimit) × (log .count ≤ room (now pending)) ⌝ }
     ensures { λ r. ⌜ r ≡ decide log (now (pending .entry)) idx commit n k ⌝ }
 {
     let mut after = log;
@@ -95,7 +99,7 @@ fn decided(log: Log, pending: &[u64], idx: u64, commit: u64, n: u64, k: u64) -> 
     after.offset.0 = first;
     let count = last + 1 - first;
     after.count = count;
-    if ((pending.len() / Log::WORDS) as u64) < count {
+    if room(pending) < count {
         return Appended::Refused(NO_ROOM);
     }
     let persisted = smaller(log.persisted.0, conflict - 1);
@@ -108,19 +112,17 @@ fn decided(log: Log, pending: &[u64], idx: u64, commit: u64, n: u64, k: u64) -> 
 }
 
 // Previous term 0 and an index outside the log.
-fn is_outside(log: Log, idx: u64, term: u64) -> bool
-    requires { ⌜ (1 ≤ log .offset .0) × (log .offset .0 + log .count < 2 ^ 64) ⌝ }
+fn is_outside(log: Log, settled: &[u64], pending: &[u64], idx: u64, term: u64) -> bool
+    requires { ⌜ Good log (now settled) (now pending) ⌝ }
     ensures { λ r. ⌜ r ≡ outside log idx term ⌝ }
 {
-    let last = log.offset.0 + log.count - 1;
-    let start = log.start.0;
     if term != 0 {
         return false;
     }
-    if idx < start {
+    if idx < log.start.0 {
         return true;
     }
-    last < idx
+    last_of(log, settled, pending) < idx
 }
 
 // Refusals 4 and 5, then those of the run's records.
@@ -135,11 +137,11 @@ fn matched(
     n: u64,
 ) -> Appended
     requires { ⌜ Good log (now settled) (now pending) ⌝ }
-    requires { ⌜ (n ≤ runCount (now run)) × (idx + n < 2 ^ 64 - 1) ⌝ }
+    requires { ⌜ (n ≤ runCount (now run)) × (idx + n ≤ indexLimit) ⌝ }
     requires { ⌜ firstFrom (zeroAt (now run)) 0 n ≡ n ⌝ }
     ensures { λ r. ⌜ r ≡ matchRun log (now (settled .entry)) (now (pending .entry)) idx term commit (now (run .entry)) n ⌝ }
 {
-    if is_outside(log, idx, term) {
+    if is_outside(log, settled, pending, idx, term) {
         return Appended::Refused(OUTSIDE_LOG);
     }
     if term_at(log, settled, pending, idx) != term {
@@ -173,8 +175,8 @@ pub fn append_answer(
 
 // Refusals 6, 8, 7 and 8, or the log after a run of n records from index `first` on.
 fn extended(log: Log, pending: &[u64], first: u64, n: u64) -> Extended
-    requires { ⌜ (1 ≤ first) × (1 ≤ n) × (first + n < 2 ^ 64) ⌝ }
-    requires { ⌜ (1 ≤ log .offset .0) × (log .offset .0 + log .count < 2 ^ 64) ⌝ }
+    requires { ⌜ (1 ≤ first) × (1 ≤ n) × (first + n ≤ wordMax) ⌝ }
+    requires { ⌜ (1 ≤ log .offset .0) × (log .offset .0 + log .count ≤ wordMax) ⌝ }
     ensures { λ r. ⌜ r ≡ extendFrom log (now (pending .entry)) first n ⌝ }
 {
     if first <= log.committed.0 {
@@ -186,7 +188,7 @@ fn extended(log: Log, pending: &[u64], first: u64, n: u64) -> Extended
     let mut after = log;
     let offset = smaller(log.offset.0, first);
     let count = first + n - offset;
-    if ((pending.len() / Log::WORDS) as u64) < count {
+    if room(pending) < count {
         return Extended::Refused(NO_ROOM);
     }
     if first <= log.persisted.0 {
@@ -206,10 +208,10 @@ pub fn extend_answer(log: Log, settled: &[u64], pending: &[u64], run: &[u64]) ->
         return Extended::Refused(BROKEN_STATE);
     }
     if run.len() == 0 {
-        let last = log.offset.0 + log.count - 1;
+        let last = last_of(log, settled, pending);
         return Extended::Last(Index(last), log);
     }
-    let first = run[0];
+    let first = run_index(run, 0);
     if first == 0 {
         return Extended::Refused(MISNUMBERED_RUN);
     }

@@ -270,8 +270,8 @@ impl Log {
         if run.len() == 0 {
             return answer;
         }
-        let at = run[0] - log.offset.0;
-        let n = (run.len() / Log::RUN) as u64;
+        let at = words::run_index(run, 0) - log.offset.0;
+        let n = words::run_count(run);
         words::put_run(pending, at, run, 0, n);
         answer
     }
@@ -494,7 +494,7 @@ fn setup_ok(start: u64, start_term: u64, last: u64, settled: &[u64]) -> bool
     if last > Index::LIMIT {
         return false;
     }
-    (last - start) as usize <= settled.len() / Log::WORDS
+    last - start <= words::room(settled)
 }
 
 // The first of the n records of a store whose term is 0, n where none is.
@@ -520,7 +520,7 @@ fn settle_answer(log: Log, settled: &[u64], pending: &[u64], i: u64, t: u64) -> 
         return Changed::Refused(BROKEN_STATE);
     }
     let last = last_of(log, settled, pending);
-    if ((settled.len() / Log::WORDS) as u64) < last - log.start.0 {
+    if words::room(settled) < last - log.start.0 {
         return Changed::Refused(NO_ROOM);
     }
     if log.count == 0 {

@@ -5,6 +5,7 @@ use crate::Log;
 use crate::state::larger;
 use crate::state::last_of;
 use crate::state::term_at;
+use crate::words::room;
 use units::Index;
 use units::Term;
 use units::refusal::BELOW_FIRST;
@@ -99,14 +100,13 @@ pub fn has_next(log: Log, settled: &[u64], pending: &[u64], s: u64) -> bool
 pub fn store_part(store: &[u64], first: u64, low: u64, high: u64) -> &[u64]
     ensures { λ r. ⌜ now r ≡ storePart (now (store .entry)) first low high ⌝ }
 {
-    let places = (store.len() / Log::WORDS) as u64;
     if low < first {
         return &store[..0];
     }
     if high < low {
         return &store[..0];
     }
-    if high - first > places {
+    if high - first > room(store) {
         return &store[..0];
     }
     let from = (low - first) as usize * Log::WORDS;

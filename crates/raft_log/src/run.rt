@@ -1,5 +1,6 @@
 // The checks of a run: refusals 2 and 3, in one pass.
 use crate::Log;
+use crate::words::run_count;
 use crate::words::run_index;
 use crate::words::run_term;
 use units::Index;
@@ -7,8 +8,9 @@ use units::refusal::MISNUMBERED_RUN;
 use units::refusal::ZERO_TERM;
 ghost use mathlib.Core.Path.{_≡_};
 ghost use mathlib.Core.Bool.{cond};
-ghost use Prim.Native.Nat.{_+_, _≤_, _<_, _^_};
+ghost use Prim.Native.Nat.{_+_, _≤_};
 ghost use lib.Dec.{eqb};
+ghost use Rattle.units.specs.Units.{wordMax};
 ghost use Rattle.units.specs.Refusals.{zeroTerm};
 ghost use Rattle.raft_log.specs.Words.{runCount};
 ghost use Rattle.raft_log.specs.Run.{scanRun, checkRun, refusedBy};
@@ -41,7 +43,7 @@ fn mark_zero(term: u64, mark: u64) -> u64
 
 // One pass over the first n records: 2 at an index out of place, else 3 where a term is 0, else 0.
 fn scan_run(run: &[u64], idx: u64, n: u64) -> u64
-    requires { ⌜ (n ≤ runCount (now run)) × (idx + n < 2 ^ 64) ⌝ }
+    requires { ⌜ (n ≤ runCount (now run)) × (idx + n ≤ wordMax) ⌝ }
     ensures { λ r. ⌜ r ≡ scanRun (now (run .entry)) idx n ⌝ }
 {
     let mut k = 0;
@@ -60,7 +62,7 @@ fn scan_run(run: &[u64], idx: u64, n: u64) -> u64
 pub fn check_run(run: &[u64], idx: u64) -> Checked
     ensures { λ r. ⌜ r ≡ checkRun (now (run .entry)) idx ⌝ }
 {
-    let n = (run.len() / Log::RUN) as u64;
+    let n = run_count(run);
     if run.len() % Log::RUN != 0 {
         return Checked::Refused(MISNUMBERED_RUN);
     }

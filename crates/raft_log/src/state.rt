@@ -1,5 +1,6 @@
 // The state rules, and the lookup of a term.
 use crate::Log;
+use crate::words::room;
 use crate::words::store_term;
 use units::Index;
 ghost use mathlib.Core.Path.{_≡_};
@@ -60,10 +61,10 @@ pub fn state_ok(log: Log, settled: &[u64], pending: &[u64]) -> bool
     if committed > offset - 1 + count {
         return false;
     }
-    if (offset - 1 - start) as usize > settled.len() / Log::WORDS {
+    if offset - 1 - start > room(settled) {
         return false;
     }
-    if count as usize > pending.len() / Log::WORDS {
+    if count > room(pending) {
         return false;
     }
     true

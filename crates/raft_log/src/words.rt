@@ -1,10 +1,17 @@
 // The words of a record: where they stand in a store and in a run. The leaf under both stores (log_unstable.rs and the crate's Storage).
 use crate::Log;
 ghost use mathlib.Core.Path.{_≡_};
-ghost use Prim.Native.Nat.{_+_, _≤_, _<_};
+ghost use Prim.Native.Nat.{_+_, _*_, _≤_, _<_};
 ghost use lib.ListN.{length};
 ghost use lib.Seq.{paste};
-ghost use Rattle.raft_log.specs.Words.{room, storeTerm, runCount, runIndex, runTerm, recordOf, putRecord, putRun, firstFrom, otherTerm};
+ghost use Rattle.raft_log.specs.Words.{runWords, room, storeTerm, runCount, runIndex, runTerm, recordOf, putRecord, putRun, firstFrom, otherTerm};
+
+// How many whole records a store has room for.
+pub fn room(store: &[u64]) -> u64
+    ensures { λ r. ⌜ r ≡ room (now (store .entry)) ⌝ }
+{
+    (store.len() / Log::WORDS) as u64
+}
 
 // The term of record k of a store.
 pub fn store_term(store: &[u64], k: u64) -> u64
@@ -15,9 +22,16 @@ pub fn store_term(store: &[u64], k: u64) -> u64
     store[at]
 }
 
-// The index and the term of record k of a run.
+// How many whole records a run has.
+pub fn run_count(run: &[u64]) -> u64
+    ensures { λ r. ⌜ r ≡ runCount (now (run .entry)) ⌝ }
+{
+    (run.len() / Log::RUN) as u64
+}
+
+// The index and the term of record k of a run: the index is there before the run is known to be whole.
 pub fn run_index(run: &[u64], k: u64) -> u64
-    requires { ⌜ k < runCount (now run) ⌝ }
+    requires { ⌜ k * runWords < length (now run) ⌝ }
     ensures { λ r. ⌜ r ≡ runIndex (now (run .entry)) k ⌝ }
 {
     let at = k as usize * Log::RUN;

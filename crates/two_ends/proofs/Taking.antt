@@ -11,7 +11,7 @@ use lib.ListN.{length, getD}
 use Rattle.units.specs.Units.{indexLimit}
 use Rattle.units.specs.declared.Index.{Index}
 use Rattle.rules.specs.Log.{Entry, nothing, Log as Abstract, last, entry-at, term-of, Matching, Agree}
-use Rattle.rules.specs.Receiver.{success, contains, step-5, receiver}
+use Rattle.rules.specs.Receiver.{success, contains, step-5, receiver, reply-false}
 use Rattle.raft_log.specs.declared.Log.{Log}
 use Rattle.raft_log.specs.declared.Appended.{Appended}
 use Rattle.raft_log.specs.declared.Appended.the-variants as appended

@@ -1,6 +1,7 @@
 -- `setup_ok` meets its contract: each test that fails breaks a rule, and the last one is the room.
-use mathlib.Core.Path.{sym, _∙_}
+use mathlib.Core.Path.{sym, ap, _∙_}
 use native.Mathlib.Omega.{arith}
+use lib.Dec.{leb}
 use borrow.Author.Needs.{needs}
 use borrow.Author.Tests.{not-true, not-false}
 use Rattle.raft_log.proofs.States.{not-both}
@@ -21,10 +22,14 @@ returns-2 c = sym (bad-setup _ _ _ _ (λ g. omega arith))
 returns-3 : tie.Need-returns-3
 returns-3 c = sym (bad-setup _ _ _ _ (λ g. omega arith))
 
+room-requires : tie.Need-room-requires
+room-requires c κs = search needs
+
 returns-4 : tie.Need-returns-4
 returns-4 c =
-    let a = c .before .before in
-    sym (room-left _ _ _ _ (sym (a .before .both-zero-or-none .ensures) ∙ not-false _ (a .if1 .left)) (omega arith) (omega arith))
+    let a = c .before .before .before in
+    ap (leb _) (c .room .ensures)
+    ∙ sym (room-left _ _ _ _ (sym (a .before .both-zero-or-none .ensures) ∙ not-false _ (a .if1 .left)) (omega arith) (omega arith))
 
 pub setup-ok-spec : {M : Type 1} → statement M
-setup-ok-spec = tie.close (tie.spec both-zero-or-none-requires returns returns-2 returns-3 returns-4)
+setup-ok-spec = tie.close (tie.spec both-zero-or-none-requires returns returns-2 returns-3 room-requires returns-4)

@@ -1,10 +1,18 @@
 -- `append` meets its contract: the answer is decided first, and what it says is what the copy asks.
 use Rattle.raft_log.proofs.Extending.{extend-cut, store-refused, store-empty, store-put}
 use native.Mathlib.Omega.{arith}
-use mathlib.Core.Path.{sym, _∙_}
+use mathlib.Core.Path.{_≡_, sym, _∙_}
+use mathlib.Core.List.{List}
+use Prim.Native.Nat.{ℕ, _-_}
+use Rattle.raft_log.specs.Words.{runCount, runIndex, putRun}
 use borrow.Author.Needs.{needs}
 use Rattle.raft_log.proofs.Log.append.Statement.{statement}
 use Rattle.raft_log.proofs.Log.append.Tie as tie
+
+-- the copy, by the first index and the count that were read
+put-read : (s run : List ℕ) (offset : ℕ) {first n : ℕ} → first ≡ runIndex run 0 → n ≡ runCount run
+    → putRun s (first - offset) run 0 n ≡ putRun s (runIndex run 0 - offset) run 0 (runCount run)
+put-read s run offset e f = cc
 
 extend-answer-requires : tie.Need-extend-answer-requires
 extend-answer-requires c κs = search needs
@@ -29,8 +37,8 @@ returns-2 c =
     let k = c .before .before in
     (sym (k .answer .given .1) ∙ k .before .before .extend-answer .ensures, store-empty _ _ _ _ (c .if1 .taken))
 
-shared-slice-read-at : tie.Need-shared-slice-read-at
-shared-slice-read-at c = search needs
+run-index-requires : tie.Need-run-index-requires
+run-index-requires c κs = search needs
 
 sub-at : tie.Need-sub-at
 sub-at c =
@@ -39,9 +47,12 @@ sub-at c =
     let cut = extend-cut _ _ _ _ (sym (k .before .before .extend-answer .ensures) ∙ k .answer .given .1) (e .if1 .left) in
     omega arith
 
+run-count-requires : tie.Need-run-count-requires
+run-count-requires c κs = search needs
+
 put-run-requires : tie.Need-put-run-requires
 put-run-requires c κs =
-    let e = c .before .before .before in
+    let e = c .before .before .before .before in
     let k = e .before .before in
     let cut = extend-cut _ _ _ _ (sym (k .before .before .extend-answer .ensures) ∙ k .answer .given .1) (e .if1 .left) in
     omega arith
@@ -52,9 +63,11 @@ same-length-3 c = search needs
 returns-3 : tie.Need-returns-3
 returns-3 c =
     let p = c .before .before in
-    let e = p .before .before .before .before in
+    let n = p .before .before in
+    let i = n .before .before in
+    let e = i .before in
     let k = e .before .before in
-    (sym (k .answer .given .1) ∙ k .before .before .extend-answer .ensures, p .put-run .ensures ∙ store-put _ _ _ _ (e .if1 .left))
+    (sym (k .answer .given .1) ∙ k .before .before .extend-answer .ensures, p .put-run .ensures ∙ put-read _ _ _ (i .run-index .ensures) (n .run-count .ensures) ∙ store-put _ _ _ _ (e .if1 .left))
 
 pub append-spec : {M : Type 1} → statement M
 append-spec =
@@ -67,8 +80,9 @@ append-spec =
     returns
     same-length-2
     returns-2
-    shared-slice-read-at
+    run-index-requires
     sub-at
+    run-count-requires
     put-run-requires
     same-length-3
     returns-3)

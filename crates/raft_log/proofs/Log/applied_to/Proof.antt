@@ -2,8 +2,7 @@
 use mathlib.Core.Path.{sym}
 use native.Mathlib.Omega.{arith}
 use borrow.Author.Needs.{needs}
-use borrow.Author.Tests.{not-true, not-false}
-use Rattle.raft_log.proofs.States.{sound, unsound}
+use Rattle.raft_log.proofs.States.{test-says}
 use Rattle.raft_log.proofs.Commits.{applied-refused, applied-zero, applied-beyond, applied-back, applied-up}
 use Rattle.raft_log.proofs.Log.applied_to.Statement.{statement}
 use Rattle.raft_log.proofs.Log.applied_to.Tie as tie
@@ -12,22 +11,22 @@ state-ok-requires : tie.Need-state-ok-requires
 state-ok-requires c κs = search needs
 
 returns : tie.Need-returns
-returns c = sym (applied-refused _ _ _ (unsound _ _ _ _ (c .before .state-ok .ensures) (not-true _ (c .if1 .taken))) _)
+returns c = sym (applied-refused _ _ _ (test-says _ _ _ (c .before .state-ok .ensures) (c .if1 .taken)) _)
 
 returns-2 : tie.Need-returns-2
-returns-2 c = sym (applied-zero _ _ _ (sound _ _ _ _ (c .before .before .state-ok .ensures) (not-false _ (c .before .if1 .left))) _ (omega arith))
+returns-2 c = sym (applied-zero _ _ _ (test-says _ _ _ (c .before .before .state-ok .ensures) (c .before .if1 .left)) _ (omega arith))
 
 smaller-requires : tie.Need-smaller-requires
 smaller-requires c κs = search needs
 
 returns-3 : tie.Need-returns-3
-returns-3 c = sym (applied-beyond _ _ _ (sound _ _ _ _ (c .before .before .before .before .state-ok .ensures) (not-false _ (c .before .before .before .if1 .left))) _ (omega arith) (omega arith))
+returns-3 c = sym (applied-beyond _ _ _ (test-says _ _ _ (c .before .before .before .before .state-ok .ensures) (c .before .before .before .if1 .left)) _ (omega arith) (omega arith))
 
 returns-4 : tie.Need-returns-4
-returns-4 c = sym (applied-back _ _ _ (sound _ _ _ _ (c .before .before .before .before .before .before .state-ok .ensures) (not-false _ (c .before .before .before .before .before .if1 .left))) _ (omega arith) (omega arith) (omega arith))
+returns-4 c = sym (applied-back _ _ _ (test-says _ _ _ (c .before .before .before .before .before .before .state-ok .ensures) (c .before .before .before .before .before .if1 .left)) _ (omega arith) (omega arith) (omega arith))
 
 returns-5 : tie.Need-returns-5
-returns-5 c = sym (applied-up _ _ _ (sound _ _ _ _ (c .before .before .before .before .before .before .before .state-ok .ensures) (not-false _ (c .before .before .before .before .before .before .if1 .left))) _ (omega arith) (omega arith) (omega arith))
+returns-5 c = sym (applied-up _ _ _ (test-says _ _ _ (c .before .before .before .before .before .before .before .state-ok .ensures) (c .before .before .before .before .before .before .if1 .left)) _ (omega arith) (omega arith) (omega arith))
 
 pub applied-to-spec : {M : Type 1} → statement M
 applied-to-spec =

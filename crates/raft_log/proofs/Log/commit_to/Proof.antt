@@ -2,8 +2,7 @@
 use mathlib.Core.Path.{sym}
 use native.Mathlib.Omega.{arith}
 use borrow.Author.Needs.{needs}
-use borrow.Author.Tests.{not-true, not-false}
-use Rattle.raft_log.proofs.States.{passed, sound, unsound}
+use Rattle.raft_log.proofs.States.{passed, test-says}
 use Rattle.raft_log.proofs.Commits.{commit-refused, commit-below, commit-beyond, commit-up}
 use Rattle.raft_log.proofs.Log.commit_to.Statement.{statement}
 use Rattle.raft_log.proofs.Log.commit_to.Tie as tie
@@ -12,19 +11,19 @@ state-ok-requires : tie.Need-state-ok-requires
 state-ok-requires c κs = search needs
 
 returns : tie.Need-returns
-returns c = sym (commit-refused _ _ _ (unsound _ _ _ _ (c .before .state-ok .ensures) (not-true _ (c .if1 .taken))) _)
+returns c = sym (commit-refused _ _ _ (test-says _ _ _ (c .before .state-ok .ensures) (c .if1 .taken)) _)
 
 returns-2 : tie.Need-returns-2
-returns-2 c = sym (commit-below _ _ _ (sound _ _ _ _ (c .before .before .before .state-ok .ensures) (not-false _ (c .before .before .if1 .left))) _ (omega arith))
+returns-2 c = sym (commit-below _ _ _ (test-says _ _ _ (c .before .before .before .state-ok .ensures) (c .before .before .if1 .left)) _ (omega arith))
 
 last-of-requires : tie.Need-last-of-requires
-last-of-requires c κs = passed _ _ _ _ (c .before .before .before .state-ok .ensures) (not-false _ (c .before .before .if1 .left))
+last-of-requires c κs = passed (c .before .before .before .state-ok .ensures) (c .before .before .if1 .left)
 
 returns-3 : tie.Need-returns-3
-returns-3 c = sym (commit-beyond _ _ _ (sound _ _ _ _ (c .before .before .before .before .before .state-ok .ensures) (not-false _ (c .before .before .before .before .if1 .left))) _ (omega arith) (omega arith))
+returns-3 c = sym (commit-beyond _ _ _ (test-says _ _ _ (c .before .before .before .before .before .state-ok .ensures) (c .before .before .before .before .if1 .left)) _ (omega arith) (omega arith))
 
 returns-4 : tie.Need-returns-4
-returns-4 c = sym (commit-up _ _ _ (sound _ _ _ _ (c .before .before .before .before .before .before .state-ok .ensures) (not-false _ (c .before .before .before .before .before .if1 .left))) _ (omega arith) (omega arith))
+returns-4 c = sym (commit-up _ _ _ (test-says _ _ _ (c .before .before .before .before .before .before .state-ok .ensures) (c .before .before .before .before .before .if1 .left)) _ (omega arith) (omega arith))
 
 pub commit-to-spec : {M : Type 1} → statement M
 commit-to-spec =

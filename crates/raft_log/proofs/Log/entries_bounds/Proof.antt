@@ -1,10 +1,9 @@
 -- `entries_bounds` meets its contract: refusal 1, none, or the slice up to the last record.
 use mathlib.Core.Path.{sym, _∙_}
 use native.Mathlib.Omega.{arith}
-use borrow.Author.Tests.{not-true, not-false}
 use borrow.Author.Needs.{needs}
 use Rattle.raft_log.specs.Slice.{entriesBounds}
-use Rattle.raft_log.proofs.States.{passed, sound, unsound}
+use Rattle.raft_log.proofs.States.{passed, test-says}
 use Rattle.raft_log.proofs.Slices.{entries-none, entries-some}
 use Rattle.raft_log.proofs.Log.entries_bounds.Statement.{statement}
 use Rattle.raft_log.proofs.Log.entries_bounds.Tie as tie
@@ -14,30 +13,30 @@ state-ok-requires c κs = search needs
 
 returns : tie.Need-returns
 unfolding entriesBounds
-returns c = simp (unsound _ _ _ _ (c .before .state-ok .ensures) (not-true _ (c .if1 .taken)))
+returns c = simp (test-says _ _ _ (c .before .state-ok .ensures) (c .if1 .taken))
 
 last-of-requires : tie.Need-last-of-requires
-last-of-requires c κs = passed _ _ _ _ (c .before .state-ok .ensures) (not-false _ (c .if1 .left))
+last-of-requires c κs = passed (c .before .state-ok .ensures) (c .if1 .left)
 
 returns-2 : tie.Need-returns-2
 returns-2 c =
     let k = c .before .before .before in
-    sym (entries-none _ _ _ _ (sound _ _ _ _ (k .before .state-ok .ensures) (not-false _ (k .if1 .left))) (omega arith))
+    sym (entries-none _ _ _ _ (test-says _ _ _ (k .before .state-ok .ensures) (k .if1 .left)) (omega arith))
 
 add-slice-in : tie.Need-add-slice-in
 add-slice-in c =
     let k = c .before .before .before in
-    omega (arith, (passed _ _ _ _ (k .before .state-ok .ensures) (not-false _ (k .if1 .left))) .last≤limit)
+    omega (arith, (passed (k .before .state-ok .ensures) (k .if1 .left)) .last≤limit)
 
 slice-in-requires : tie.Need-slice-in-requires
 slice-in-requires c κs =
     let k = c .before .before .before in
-    passed _ _ _ _ (k .before .state-ok .ensures) (not-false _ (k .if1 .left))
+    passed (k .before .state-ok .ensures) (k .if1 .left)
 
 returns-3 : tie.Need-returns-3
 returns-3 c =
     let k = c .before .before .before .before in
-    c .slice-in .ensures ∙ sym (entries-some _ _ _ _ (sound _ _ _ _ (k .before .state-ok .ensures) (not-false _ (k .if1 .left))) (omega arith) (omega arith))
+    c .slice-in .ensures ∙ sym (entries-some _ _ _ _ (test-says _ _ _ (k .before .state-ok .ensures) (k .if1 .left)) (omega arith) (omega arith))
 
 pub entries-bounds-spec : {M : Type 1} → statement M
 entries-bounds-spec =

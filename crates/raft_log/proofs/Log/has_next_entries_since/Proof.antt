@@ -1,8 +1,7 @@
 -- `has_next_entries_since` meets its contract: refusal 1, or what `has_next` answers.
-use borrow.Author.Tests.{not-true, not-false}
 use borrow.Author.Needs.{needs}
 use Rattle.raft_log.specs.Slice.{hasNextSince}
-use Rattle.raft_log.proofs.States.{passed, sound, unsound}
+use Rattle.raft_log.proofs.States.{passed, test-says}
 use Rattle.raft_log.proofs.Log.has_next_entries_since.Statement.{statement}
 use Rattle.raft_log.proofs.Log.has_next_entries_since.Tie as tie
 
@@ -11,14 +10,14 @@ state-ok-requires c κs = search needs
 
 returns : tie.Need-returns
 unfolding hasNextSince
-returns c = simp (unsound _ _ _ _ (c .before .state-ok .ensures) (not-true _ (c .if1 .taken)))
+returns c = simp (test-says _ _ _ (c .before .state-ok .ensures) (c .if1 .taken))
 
 has-next-requires : tie.Need-has-next-requires
-has-next-requires c κs = passed _ _ _ _ (c .before .state-ok .ensures) (not-false _ (c .if1 .left))
+has-next-requires c κs = passed (c .before .state-ok .ensures) (c .if1 .left)
 
 returns-2 : tie.Need-returns-2
 unfolding hasNextSince
-returns-2 c = simp (sound _ _ _ _ (c .before .before .state-ok .ensures) (not-false _ (c .before .if1 .left)), c .has-next .ensures)
+returns-2 c = simp (test-says _ _ _ (c .before .before .state-ok .ensures) (c .before .if1 .left), c .has-next .ensures)
 
 pub has-next-entries-since-spec : {M : Type 1} → statement M
 has-next-entries-since-spec =

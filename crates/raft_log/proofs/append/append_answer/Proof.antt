@@ -1,8 +1,7 @@
 -- `append_answer` meets its contract: each answer has its law.
-use borrow.Author.Tests.{not-true, not-false}
 use Rattle.raft_log.specs.declared.Appended.the-variants.{Refused}
 use Rattle.raft_log.specs.Run.{refusedBy}
-use Rattle.raft_log.proofs.States.{passed, sound, unsound}
+use Rattle.raft_log.proofs.States.{passed, test-says}
 use Rattle.raft_log.proofs.Runs.{run-passed}
 use Rattle.raft_log.proofs.Appending.{answer-broken, answer-run, answer-on}
 use borrow.Author.Needs.{needs}
@@ -16,7 +15,7 @@ state-ok-requires : tie.Need-state-ok-requires
 state-ok-requires c κs = search needs
 
 returns : tie.Need-returns
-returns c = sym (answer-broken _ _ _ _ _ _ _ (unsound _ _ _ _ (c .before .state-ok .ensures) (not-true _ (c .if1 .taken))))
+returns c = sym (answer-broken _ _ _ _ _ _ _ (test-says _ _ _ (c .before .state-ok .ensures) (c .if1 .taken)))
 
 check-run-requires : tie.Need-check-run-requires
 check-run-requires c κs = search needs
@@ -34,13 +33,13 @@ returns-2 : tie.Need-returns-2
 returns-2 c =
     let told = c .before .enum-told .given .1 in
     let r = c .before .before .before in
-    let ok = sound _ _ _ _ (r .before .before .state-ok .ensures) (not-false _ (r .before .if1 .left)) in
+    let ok = test-says _ _ _ (r .before .before .state-ok .ensures) (r .before .if1 .left) in
     ap (λ (x : ℕ). Refused x) (c .refusal .ensures ∙ ap refusedBy told) ∙ sym (answer-run _ _ _ _ _ _ _ ok (sym (r .check-run .ensures) ∙ told))
 
 matched-requires : tie.Need-matched-requires
 matched-requires c κs =
     let r = c .before .before .before in
-    let good = passed _ _ _ _ (r .before .before .state-ok .ensures) (not-false _ (r .before .if1 .left)) in
+    let good = passed (r .before .before .state-ok .ensures) (r .before .if1 .left) in
     let records = sym (r .check-run .ensures) ∙ c .before .checked .given .1 in
     let run = run-passed _ _ records in
     (good, (omega arith, run .set))
@@ -48,7 +47,7 @@ matched-requires c κs =
 returns-3 : tie.Need-returns-3
 returns-3 c =
     let r = c .before .before .before .before in
-    let ok = sound _ _ _ _ (r .before .before .state-ok .ensures) (not-false _ (r .before .if1 .left)) in
+    let ok = test-says _ _ _ (r .before .before .state-ok .ensures) (r .before .if1 .left) in
     c .matched .ensures ∙ sym (answer-on _ _ _ _ _ _ _ ok (sym (r .check-run .ensures) ∙ c .before .before .checked .given .1))
 
 pub append-answer-spec : {M : Type 1} → statement M

@@ -37,6 +37,9 @@ add-count c = search needs
 sub-count : tie.Need-sub-count
 sub-count c = search needs
 
+room-requires : tie.Need-room-requires
+room-requires c κs = search needs
+
 returns-3 : tie.Need-returns-3
 returns-3 c = sym (decide-full _ _ _ _ _ _ (omega arith) (omega arith) (omega arith))
 
@@ -48,11 +51,11 @@ smaller-requires-3 c κs = search needs
 
 returns-4 : tie.Need-returns-4
 returns-4 c =
-    let m = c .before .before .before .before .before .before .before .before in
+    let m = c .before .before .before .before .before .before .before .before .before in
     sym (decide-done _ _ _ _ _ _
     (omega arith)
     (omega arith)
-    (c .before .before .before .before .smaller2 .ensures)
+    (c .before .before .before .before .before .smaller2 .ensures)
     (omega arith)
     (m .larger .ensures ∙ ap (max _) (m .before .smaller .ensures))
     (c .before .smaller3 .ensures))
@@ -71,6 +74,7 @@ decided-spec =
     smaller-requires-2
     add-count
     sub-count
+    room-requires
     returns-3
     sub-smaller
     smaller-requires-3

@@ -24,6 +24,9 @@ add-count c = search needs
 sub-count : tie.Need-sub-count
 sub-count c = search needs
 
+room-requires : tie.Need-room-requires
+room-requires c κs = search needs
+
 returns-3 : tie.Need-returns-3
 returns-3 c = sym (extend-full _ _ _ _ (omega arith) (omega arith) (omega arith))
 
@@ -38,7 +41,7 @@ sub-last c = search needs
 
 returns-5 : tie.Need-returns-5
 returns-5 c =
-    sym (extend-last _ _ _ _ (omega arith) (omega arith) (c .before .before .before .before .smaller .ensures) (omega arith) (omega arith) (omega arith))
+    sym (extend-last _ _ _ _ (omega arith) (omega arith) (c .before .before .before .before .before .smaller .ensures) (omega arith) (omega arith) (omega arith))
 
 pub extended-spec : {M : Type 1} → statement M
 extended-spec =
@@ -50,6 +53,7 @@ extended-spec =
     smaller-requires
     add-count
     sub-count
+    room-requires
     returns-3
     returns-4
     add-last

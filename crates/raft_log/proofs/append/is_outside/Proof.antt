@@ -5,23 +5,20 @@ use borrow.Author.Tests.{lt-ltb, le-ltb, eq-eqb, ne-eqb}
 use Rattle.raft_log.proofs.append.is_outside.Statement.{statement}
 use Rattle.raft_log.proofs.append.is_outside.Tie as tie
 
-add-last : tie.Need-add-last
-add-last c = search needs
-
-sub-last : tie.Need-sub-last
-sub-last c = search needs
-
 returns : tie.Need-returns
 unfolding outside
 returns c = simp (ne-eqb _ _ (c .if1 .taken))
 
 returns-2 : tie.Need-returns-2
 unfolding outside
-returns-2 c = simp (eq-eqb _ _ (c .before .if1 .left), lt-ltb _ _ (c .if2 .taken))
+returns-2 c = simp (eq-eqb _ _ (c .before .before .if1 .left), lt-ltb _ _ (c .if2 .taken))
+
+last-of-requires : tie.Need-last-of-requires
+last-of-requires c κs = search needs
 
 returns-3 : tie.Need-returns-3
 unfolding outside
-returns-3 c = simp (eq-eqb _ _ (c .before .if1 .left), le-ltb _ _ (c .if2 .left))
+returns-3 c = simp (c .last-of .ensures, eq-eqb _ _ (c .before .before .before .if1 .left), le-ltb _ _ (c .before .if2 .left))
 
 pub is-outside-spec : {M : Type 1} → statement M
-is-outside-spec = tie.close (tie.spec add-last sub-last returns returns-2 returns-3)
+is-outside-spec = tie.close (tie.spec returns returns-2 last-of-requires returns-3)

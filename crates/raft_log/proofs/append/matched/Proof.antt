@@ -2,6 +2,7 @@
 use Rattle.raft_log.specs.Append.{decide}
 use Rattle.raft_log.proofs.Appending.{match-outside, match-mismatch, match-on, held-within}
 use borrow.Author.Needs.{needs}
+use native.Mathlib.Omega.{arith}
 use mathlib.Core.Path.{sym, ap, _∙_}
 use Rattle.raft_log.proofs.append.matched.Statement.{statement}
 use Rattle.raft_log.proofs.append.matched.Tie as tie
@@ -26,7 +27,8 @@ first-conflict-requires c κs =
     let b = t .before in
     let u = sym (b .before .is-outside .ensures) ∙ b .if1 .left in
     let e = sym (t .term-at .ensures) ∙ c .if2 .left in
-    (search needs, (search needs, (held-within _ _ _ _ _ (search needs) u e, search needs)))
+    let p = b .before .before .before .before .before .pre in
+    (omega arith, (p .0, (held-within _ _ _ _ _ (p .0) u e, p .1 .1)))
 
 decided-requires : tie.Need-decided-requires
 decided-requires c κs = search needs

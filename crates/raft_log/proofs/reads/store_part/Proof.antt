@@ -21,6 +21,9 @@ returns-2 c = sym (part-none _ _ _ _ (λ h k m. omega arith))
 sub-if3 : tie.Need-sub-if3
 sub-if3 c = search needs
 
+room-requires : tie.Need-room-requires
+room-requires c κs = search needs
+
 slice-aggregate-result-3 : tie.Need-slice-aggregate-result-3
 slice-aggregate-result-3 c = search needs
 
@@ -60,6 +63,7 @@ store-part-spec =
     slice-aggregate-result-2
     returns-2
     sub-if3
+    room-requires
     slice-aggregate-result-3
     returns-3
     mul-from

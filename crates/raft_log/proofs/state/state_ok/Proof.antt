@@ -53,8 +53,14 @@ sub-if10 c = search needs
 sub-if10-2 : tie.Need-sub-if10-2
 sub-if10-2 c = search needs
 
+room-requires : tie.Need-room-requires
+room-requires c κs = search needs
+
 returns-10 : tie.Need-returns-10
 returns-10 c = sym (bad-state _ _ _ (λ g. omega arith))
+
+room-requires-2 : tie.Need-room-requires-2
+room-requires-2 c κs = search needs
 
 returns-11 : tie.Need-returns-11
 returns-11 c = sym (bad-state _ _ _ (λ g. omega arith))
@@ -62,7 +68,7 @@ returns-11 c = sym (bad-state _ _ _ (λ g. omega arith))
 returns-12 : tie.Need-returns-12
 returns-12 c =
     sym (good-ok _ _ _ (record {
-      starts = sym (c .before .before .before .before .before .before .before .before .before .before .before .both-zero-or-none .ensures) ∙ not-false _ (c .before .before .before .before .before .before .before .before .before .before .if1 .left);
+      starts = sym (c .before .before .before .before .before .before .before .before .before .before .before .before .before .both-zero-or-none .ensures) ∙ not-false _ (c .before .before .before .before .before .before .before .before .before .before .before .before .if1 .left);
       start≤applied = omega arith;
       applied≤committed = omega arith;
       start≤committed = omega arith;
@@ -94,6 +100,8 @@ state-ok-spec =
     returns-9
     sub-if10
     sub-if10-2
+    room-requires
     returns-10
+    room-requires-2
     returns-11
     returns-12)
