@@ -1,9 +1,10 @@
 -- The cut that `maybe_append` and `append` share, on the view: the records before the conflict stay, and the run's follow them.
-use mathlib.Core.Path.{_≡_, sym, ap, ap₂, _∙_}
+use mathlib.Core.Path.{_≡_, sym, ap, _∙_}
 use mathlib.Core.Logic.{⊎-elim}
 use mathlib.Core.List.{List, _++_, append-nil, append-assoc}
 use Prim.Native.Nat.{ℕ, _+_, _-_, _≤_, _<_, min}
 use native.Mathlib.Omega.{arith}
+use native.Mathlib.Nat.{min-eq-left, min-eq-right, sub-right-comm}
 use lib.ListN.{take}
 use lib.Seq.{take-append-le, take-append-add}
 use Rattle.rules.specs.Log.{Entry}
@@ -14,7 +15,7 @@ use Rattle.raft_log.specs.State.{Good, lastOf}
 use Rattle.raft_log.specs.Append.{cutLog}
 use Rattle.log_laws.specs.View.{storeEntry, runEntry, listed, records, view-of}
 use Rattle.raft_log.proofs.Searching.{below-or-not}
-use Rattle.log_laws.proofs.Views.{length-listed, same-listed, take-listed, append-listed, put-below, put-inside}
+use Rattle.log_laws.proofs.Views.{length-listed, take-listed, listed-two, put-below, put-inside}
 
 -- numbers, apart so that few are in reach
 seam : (n o s c : ℕ) → n ≡ o - 1 - s → s < o → o ≤ c → n + (c - o) ≡ c - s - 1
@@ -25,15 +26,6 @@ shorter o n c h f = omega arith
 
 lower : (o s c : ℕ) → c < o → c - s - 1 ≤ o - 1 - s
 lower o s c h = omega arith
-
-left : (o c : ℕ) → o ≤ c → min o c ≡ o
-left o c h = omega arith
-
-right : (o c : ℕ) → c < o → min o c ≡ c
-right o c h = omega arith
-
-swapped : (c s : ℕ) → c - 1 - s ≡ c - s - 1
-swapped c s = omega arith
 
 counts : (o c m last : ℕ) → last + 1 ≡ c + m → last + 1 - min o c ≡ c - min o c + m
 counts o c m last h = omega arith
@@ -57,7 +49,7 @@ module _ (l : Log) (settled pending : List ℕ) (good : Good l settled pending) 
   kept-pending : l .offset .0 ≤ conflict → records (F - 1 - l .start .0) settled ++ records a pending ≡ kept
   unfolding view-of
   kept-pending h =
-      let at : F ≡ l .offset .0 = left (l .offset .0) conflict h in
+      let at : F ≡ l .offset .0 = min-eq-left h in
       ap (λ (x : ℕ). records (x - 1 - l .start .0) settled ++ records (conflict - x) pending) at
       ∙ ap (λ (x : List Entry). records A settled ++ x)
       (sym (take-listed (storeEntry pending) 0 (l .count) (conflict - l .offset .0) (shorter (l .offset .0) (l .count) conflict (omega arith) next)))
@@ -69,13 +61,13 @@ module _ (l : Log) (settled pending : List ℕ) (good : Good l settled pending) 
   kept-settled : conflict < l .offset .0 → records (F - 1 - l .start .0) settled ++ records a pending ≡ kept
   unfolding view-of listed
   kept-settled h =
-      let at : F ≡ conflict = right (l .offset .0) conflict h in
+      let at : F ≡ conflict = min-eq-right (omega arith) in
       let none : conflict - conflict ≡ 0 = omega arith in
       let within : conflict - l .start .0 - 1 ≤ A = lower (l .offset .0) (l .start .0) conflict h in
       ap (λ (x : ℕ). records (x - 1 - l .start .0) settled ++ records (conflict - x) pending) at
       ∙ ap (λ (x : ℕ). records (conflict - 1 - l .start .0) settled ++ records x pending) none
       ∙ append-nil (records (conflict - 1 - l .start .0) settled)
-      ∙ ap (λ (x : ℕ). records x settled) (swapped conflict (l .start .0))
+      ∙ ap (λ (x : ℕ). records x settled) (sub-right-comm conflict 1 (l .start .0))
       ∙ sym (take-append-le (conflict - l .start .0 - 1) (records A settled) (records (l .count) pending) (omega (arith, length-listed (storeEntry settled) 0 A))
       ∙ take-listed (storeEntry settled) 0 A (conflict - l .start .0 - 1) within)
 
@@ -89,10 +81,9 @@ module _ (l : Log) (settled pending : List ℕ) (good : Good l settled pending) 
 
     written-is : records (a + m) store ≡ records a pending ++ listed (runEntry run) q m
     written-is =
-        append-listed (storeEntry store) 0 a m
-        ∙ ap₂ (λ (x y : List Entry). x ++ y)
-        (same-listed (storeEntry store) (storeEntry pending) 0 0 a (λ i h. put-below pending a run q m (0 + i) (omega arith)))
-        (same-listed (storeEntry store) (runEntry run) (0 + a) q m (λ i h. ap (storeEntry store) (omega arith) ∙ put-inside pending a run q m i room-left h))
+        listed-two (storeEntry store) (storeEntry pending) (runEntry run) a q m
+        (put-below pending a run q m)
+        (λ i h. put-inside pending a run q m i room-left h)
 
     entries-cut : records (F - 1 - l .start .0) settled ++ records (a + m) store ≡ kept ++ listed (runEntry run) q m
     entries-cut =

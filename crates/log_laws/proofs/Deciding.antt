@@ -18,22 +18,19 @@ use Rattle.raft_log.specs.Append.{withCommitted}
 use Rattle.raft_log.specs.Commit.{withApplied, withPersisted, commitTo, appliedTo, maybeCommit, maybePersist}
 use Rattle.raft_log.specs.Settle.{settledLog, settleAnswer}
 use Rattle.raft_log.proofs.Searching.{below-or-not}
-use Rattle.raft_log.proofs.States.{good-ok, term-settled}
+use Rattle.raft_log.proofs.States.{good-whole, term-settled}
 use Rattle.log_laws.specs.View.{view-of}
-use Rattle.log_laws.proofs.Views.{view-last, view-start, view-term}
+use Rattle.log_laws.proofs.Views.{view-last, view-start, held-term}
 
 module _ (l : Log) (settled pending : List ℕ) (good : Good l settled pending) where
   abbrev view : Abstract
   view = view-of l settled pending
 
   fine : broken l settled pending ≡ false
-  fine = ap not (good-ok l settled pending good)
+  fine = good-whole l settled pending good
 
   ends : lastOf l ≡ last view
   ends = sym (view-last l settled pending good)
-
-  same-term : (i : ℕ) → termAt l settled pending i ≡ term-of view i
-  same-term i = sym (view-term l settled pending good i)
 
   -- "nothing if i <= committed, else committed is i"; 8 above last
   pub commit-to-rule : (i : ℕ) → commitTo l settled pending i ≡ cond (leb i (l .committed .0)) (changed.Now l) (cond (ltb (last view) i) (changed.Refused outOfRange) (changed.Now (withCommitted l i)))
@@ -49,14 +46,14 @@ module _ (l : Log) (settled pending : List ℕ) (good : Good l settled pending) 
   -- "yes exactly if committed < i <= last and term(i) = t, then commits"
   pub maybe-commit-rule : (i t : ℕ) → maybeCommit l settled pending i t ≡ cond (ltb (l .committed .0) i && leb i (last view) && eqb (term-of view i) t) (decided.Yes (withCommitted l i)) decided.No
   unfolding maybeCommit
-  maybe-commit-rule i t = simp fine (ap₂ (λ (n x : ℕ). cond (ltb (l .committed .0) i && leb i n && eqb x t) (decided.Yes (withCommitted l i)) decided.No) ends (same-term i))
+  maybe-commit-rule i t = simp fine (ap₂ (λ (n x : ℕ). cond (ltb (l .committed .0) i && leb i n && eqb x t) (decided.Yes (withCommitted l i)) decided.No) ends (held-term l settled pending good i))
 
   -- "yes exactly if persisted < i < offset and the settled term at i is t": a settled record's term is the view's
   settled-term : (i t : ℕ) → (ltb (l .persisted .0) i && ltb i (l .offset .0) && eqb (storeTerm settled (i - l .start .0 - 1)) t) ≡ (ltb (l .persisted .0) i && ltb i (l .offset .0) && eqb (term-of view i) t)
   settled-term i t =
       ⊎-elim
       (λ above. ⊎-elim
-      (λ below. ap (λ (x : ℕ). ltb (l .persisted .0) i && ltb i (l .offset .0) && eqb x t) (sym (term-settled l settled pending i (omega (arith, good .start≤applied, good .applied≤persisted)) below) ∙ same-term i))
+      (λ below. ap (λ (x : ℕ). ltb (l .persisted .0) i && ltb i (l .offset .0) && eqb x t) (sym (term-settled l settled pending i (omega (arith, good .start≤applied, good .applied≤persisted)) below) ∙ held-term l settled pending good i))
       (λ beyond. simp (lt-ltb (l .persisted .0) i above, le-ltb i (l .offset .0) beyond))
       (below-or-not i (l .offset .0)))
       (λ not-above. simp (le-ltb (l .persisted .0) i not-above))
@@ -73,4 +70,4 @@ module _ (l : Log) (settled pending : List ℕ) (good : Good l settled pending) 
   stable-entries-rule i t =
       simp fine
       (ap₂ (λ (n k : ℕ). cond (ltb (room settled) (n - k)) (changed.Refused noRoom) (cond (not (not (eqb (l .count) 0) && eqb i n && eqb (termAt l settled pending i) t)) (changed.Refused notPending) (changed.Now (settledLog l)))) ends (sym (view-start l settled pending))
-      ∙ ap (λ (x : ℕ). cond (ltb (room settled) (last view - view .start)) (changed.Refused noRoom) (cond (not (not (eqb (l .count) 0) && eqb i (last view) && eqb x t)) (changed.Refused notPending) (changed.Now (settledLog l)))) (same-term i))
+      ∙ ap (λ (x : ℕ). cond (ltb (room settled) (last view - view .start)) (changed.Refused noRoom) (cond (not (not (eqb (l .count) 0) && eqb i (last view) && eqb x t)) (changed.Refused notPending) (changed.Now (settledLog l)))) (held-term l settled pending good i))

@@ -1,7 +1,7 @@
 -- Every word outside the records that a call adds or copies is as it was, and no store changes its length.
 use Prim.Native.Nat.{ℕ, _+_, _-_, _*_, _≤_}
 use mathlib.Core.Path.{_≡_, refl}
-use mathlib.Core.Bool.{Bool, true, false, cond}
+use mathlib.Core.Bool.{Bool, cond}
 use mathlib.Core.List.{List}
 use mathlib.Core.Logic.{⊎-elim}
 use native.Mathlib.Omega.{arith}
@@ -9,6 +9,7 @@ use lib.Dec.{eqb}
 use lib.ListN.{length, getD}
 use lib.Seq.{length-paste}
 use Rattle.units.specs.declared.Index.{Index}
+use Rattle.units.proofs.Cond.{both-ends}
 use Rattle.raft_log.specs.declared.Log.{Log}
 use Rattle.raft_log.specs.declared.Appended.{Appended}
 use Rattle.raft_log.specs.declared.Appended.the-variants as appended
@@ -21,16 +22,12 @@ use Rattle.raft_log.specs.Extend.{firstOf, extendStore}
 use Rattle.raft_log.specs.Settle.{settleAnswer, settleStore}
 use Rattle.raft_log.proofs.Settling.{settle-room}
 use Rattle.log_laws.specs.Frame.{Elsewhere}
-use Rattle.log_laws.proofs.Views.{length-put, put-before, put-after, paste-before, paste-after}
+use Rattle.log_laws.proofs.Views.{length-put-or, put-before, put-after, paste-before, paste-after}
 
 -- A run put into a store, or not.
 store-elsewhere : (b : Bool) (s : List ℕ) (at : ℕ) (run : List ℕ) (k n w : ℕ) → Elsewhere at n w → getD (cond b s (putRun s at run k n)) w 0 ≡ getD s w 0
-store-elsewhere true s at run k n w h = refl
-store-elsewhere false s at run k n w h = ⊎-elim (put-before s at run k n w) (put-after s at run k n w) h
-
-store-length : (b : Bool) (s : List ℕ) (at : ℕ) (run : List ℕ) (k n : ℕ) → length (cond b s (putRun s at run k n)) ≡ length s
-store-length true s at run k n = refl
-store-length false s at run k n = length-put s at run k n
+store-elsewhere b s at run k n w h =
+    both-ends (λ (x : List ℕ). getD x w 0 ≡ getD s w 0) b refl (⊎-elim (put-before s at run k n w) (put-after s at run k n w) h)
 
 -- `maybe_append`: the records from the conflict up to the message's last index.
 module _ (pending : List ℕ) (idx : ℕ) (run : List ℕ) where
@@ -43,7 +40,7 @@ module _ (pending : List ℕ) (idx : ℕ) (run : List ℕ) where
   pub maybe-append-length : (a : Appended) → length (appendStore a pending idx run) ≡ length pending
   unfolding appendStore
   maybe-append-length (appended.Done conflict last after) =
-      store-length (eqb (conflict .0) 0) pending (conflict .0 - after .offset .0) run (conflict .0 - idx - 1) (last .0 + 1 - conflict .0)
+      length-put-or (eqb (conflict .0) 0) pending (conflict .0 - after .offset .0) run (conflict .0 - idx - 1) (last .0 + 1 - conflict .0)
   maybe-append-length (appended.Refused number) = refl
 
 -- `append`: the run's records.
@@ -55,7 +52,7 @@ module _ (pending run : List ℕ) where
 
   pub append-length : (a : Extended) → length (extendStore a pending run) ≡ length pending
   unfolding extendStore
-  append-length (extended.Last last after) = store-length (eqb (length run) 0) pending (firstOf run - after .offset .0) run 0 (runCount run)
+  append-length (extended.Last last after) = length-put-or (eqb (length run) 0) pending (firstOf run - after .offset .0) run 0 (runCount run)
   append-length (extended.Refused number) = refl
 
 -- `stable_entries`: the pending records, behind the settled ones.

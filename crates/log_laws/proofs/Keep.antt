@@ -1,47 +1,50 @@
--- Each call keeps the state rules: an answer's tests, peeled off one by one, leave what the new log's rules ask.
-use mathlib.Core.Path.{_≡_, refl, ap, _∙_}
+-- Each call keeps the state rules: what an answer's tests let through is what the new log's rules ask.
+use mathlib.Core.Path.{_≡_, refl, ap, subst}
 use mathlib.Core.Bool.{Bool, true, false, not, _&&_, _||_, cond}
 use mathlib.Core.Logic.{⊎-elim}
 use mathlib.Core.List.{List}
-use Prim.Native.Nat.{ℕ, zero, suc, _+_, _-_, _*_, _≤_, _<_, min, max}
+use Prim.Native.Nat.{ℕ, _+_, _-_, _≤_, _<_, min, max}
 use native.Mathlib.Omega.{arith}
 use lib.Dec.{eqb, leb, ltb}
 use lib.ListN.{length}
-use lib.Seq.{length-sets, length-paste}
-use borrow.Author.Tests.{eq-eqb, ltb-true, ltb-false, leb-true, leb-false, eqb-true, eqb-false, not-false}
+use borrow.Author.Tests.{ltb-true, ltb-false, leb-true, leb-false, eqb-true, not-false}
 use Rattle.units.specs.Units.{indexLimit}
 use Rattle.units.specs.Refusals.{brokenState}
 use Rattle.units.proofs.Cond.{either-end}
 use Rattle.raft_log.specs.declared.Log.{Log}
 use Rattle.raft_log.specs.declared.Changed.{Changed}
+use Rattle.raft_log.specs.declared.Changed.the-variants as changed
 use Rattle.raft_log.specs.declared.Extended.{Extended}
+use Rattle.raft_log.specs.declared.Extended.the-variants as extended
 use Rattle.raft_log.specs.declared.Appended.{Appended}
+use Rattle.raft_log.specs.declared.Appended.the-variants as appended
 use Rattle.raft_log.specs.declared.Decided.{Decided}
 use Rattle.raft_log.specs.declared.Decided.the-variants as decided
-use Rattle.raft_log.specs.Words.{recordWords, room, runCount, runTerm, putRecord, recordOf, putRun, firstFrom}
+use Rattle.raft_log.specs.Words.{room, runCount, firstFrom}
 use Rattle.raft_log.specs.State.{Good, broken, lastOf, termAt}
-use Rattle.raft_log.specs.Run.{termsSet, misnumbered, zeroTermIn, zeroAt}
-use Rattle.raft_log.specs.Append.{differs, withPending, withCommitted, cutLog, cutIf, commitUp, afterMessage, outside, mismatched, cuts, overfull, decide, matchRun, appendAnswer, appendStore}
-use Rattle.raft_log.specs.Append as append
-use Rattle.raft_log.specs.Extend.{firstOf, badRun, startsCommitted, leavesGap, startsPersisted, extendFrom, extendAnswer, extendStore}
-use Rattle.raft_log.specs.Extend as extend
+use Rattle.raft_log.specs.Run.{termsSet, misnumbered, zeroTermIn}
+use Rattle.raft_log.specs.Append.{differs, withPending, withCommitted, cutLog, cutIf, commitUp, afterMessage, outside, cuts, overfull, appendAnswer, appendStore}
+use Rattle.raft_log.specs.Extend.{firstOf, extendAnswer, extendStore}
 use Rattle.raft_log.specs.Commit.{withApplied, mayCommit, mayPersist, commitTo, appliedTo, maybeCommit, maybePersist}
-use Rattle.raft_log.specs.Settle.{settledOverfull, isLast, settleAnswer, settleStore}
+use Rattle.raft_log.specs.Settle.{settleAnswer, settleStore}
 use Rattle.raft_log.specs.Setup.{setupOk, settledZero, setupAnswer}
-use Rattle.raft_log.proofs.States.{split, not-both, ok-good, term-beyond}
+use Rattle.raft_log.proofs.States.{split, not-both, neither, whole-good}
 use Rattle.raft_log.proofs.Runs.{numbered-rises}
-use Rattle.raft_log.proofs.Searching.{found, below-or-not}
+use Rattle.raft_log.proofs.Searching.{other-not}
+use Rattle.raft_log.proofs.Conflicts.{Held, alike-held}
+use Rattle.raft_log.proofs.Appending.{held-within, done-passed}
+use Rattle.raft_log.proofs.Extending.{InPlace, Allowed, last-allowed}
+use Rattle.raft_log.proofs.Settling.{settle-room}
+use Rattle.raft_log.proofs.Setups.{ok-sets-up}
 use Rattle.log_laws.specs.Keep.{AfterChanged, AfterDecided, AfterExtended, AfterAppended}
+use Rattle.log_laws.proofs.Views.{same?}
+use Rattle.log_laws.proofs.Frames.{maybe-append-length, append-length, stable-entries-length}
 
 decided-yes : (a b : Bool) (after : Log) (settled pending : List ℕ)
     → (a ≡ false → b ≡ true → Good after settled pending) → AfterDecided Good (cond a (decided.Refused brokenState) (cond b (decided.Yes after) decided.No)) settled pending
 decided-yes a b after settled pending f =
     let P : Decided → Type 0 = λ x. AfterDecided Good x settled pending in
     either-end P a (λ _. tt) (λ no. either-end P b (f no) (λ _. tt))
-
-either-false : (a b : Bool) → a || b ≡ false → (a ≡ false) × (b ≡ false)
-either-false false b h = (refl, h)
-either-false true b h = absurd (not-both refl h)
 
 second-false : (a b : Bool) → a ≡ true → a && b ≡ false → b ≡ false
 second-false true b e h = h
@@ -120,15 +123,12 @@ module _ {l : Log} {settled pending : List ℕ} (g : Good l settled pending) whe
 -- ---- the calls that move one number
 
 module _ (l : Log) (settled pending : List ℕ) where
-  sound-log : broken l settled pending ≡ false → Good l settled pending
-  sound-log h = ok-good l settled pending (not-false _ h)
-
   pub commit-to-keeps : (i : ℕ) → AfterChanged Good (commitTo l settled pending i) settled pending
   unfolding commitTo
   commit-to-keeps i =
       let P : Changed → Type 0 = λ a. AfterChanged Good a settled pending in
       either-end P (broken l settled pending) (λ _. tt) (λ h.
-      let g : Good l settled pending = sound-log h in
+      let g : Good l settled pending = whole-good l settled pending h in
       either-end P (leb i (l .committed .0)) (λ _. g) (λ a.
       either-end P (ltb (lastOf l) i) (λ _. tt) (λ b.
       let above : l .committed .0 < i = leb-false _ _ a in
@@ -139,17 +139,17 @@ module _ (l : Log) (settled pending : List ℕ) where
   applied-to-keeps i =
       let P : Changed → Type 0 = λ a. AfterChanged Good a settled pending in
       either-end P (broken l settled pending) (λ _. tt) (λ h.
-      let g : Good l settled pending = sound-log h in
+      let g : Good l settled pending = whole-good l settled pending h in
       either-end P (eqb i 0) (λ _. g) (λ a.
       either-end P (ltb (min (l .committed .0) (l .persisted .0)) i || ltb i (l .applied .0)) (λ _. tt) (λ b.
-      let within = either-false (ltb (min (l .committed .0) (l .persisted .0)) i) (ltb i (l .applied .0)) b in
+      let within = neither (ltb (min (l .committed .0) (l .persisted .0)) i) (ltb i (l .applied .0)) (ap not b) in
       applied-moved g i (ltb-false _ _ (within .1)) (ltb-false _ _ (within .0)))))
 
   pub maybe-commit-keeps : (i t : ℕ) → AfterDecided Good (maybeCommit l settled pending i t) settled pending
   unfolding maybeCommit
   maybe-commit-keeps i t =
       decided-yes (broken l settled pending) (mayCommit l settled pending i t) _ settled pending (λ h y.
-      let g : Good l settled pending = sound-log h in
+      let g : Good l settled pending = whole-good l settled pending h in
       let bounds = split _ _ (split _ _ y .0) in
       let above : l .committed .0 < i = ltb-true _ _ (bounds .0) in
       committed-moved g i (omega (arith, g .applied≤committed)) (leb-true _ _ (bounds .1)))
@@ -158,7 +158,7 @@ module _ (l : Log) (settled pending : List ℕ) where
   unfolding maybePersist
   maybe-persist-keeps i t =
       decided-yes (broken l settled pending) (mayPersist l settled i t) _ settled pending (λ h y.
-      let g : Good l settled pending = sound-log h in
+      let g : Good l settled pending = whole-good l settled pending h in
       let bounds = split _ _ (split _ _ y .0) in
       let above : l .persisted .0 < i = ltb-true _ _ (bounds .0) in
       pending-moved g (l .offset .0) (l .count) i (g .start<offset) (omega (arith, g .applied≤persisted)) (ltb-true _ _ (bounds .1)) (g .committed≤last) (g .settled-room) (g .pending-room) (g .last≤limit))
@@ -166,19 +166,17 @@ module _ (l : Log) (settled pending : List ℕ) where
 -- ---- set-up
 
 pub new-keeps : (start startterm last : ℕ) (settled pending : List ℕ) → AfterChanged Good (setupAnswer start startterm last settled) settled pending
-unfolding setupAnswer setupOk
+unfolding setupAnswer
 new-keeps start startterm last settled pending =
     let P : Changed → Type 0 = λ a. AfterChanged Good a settled pending in
     either-end P (not (setupOk start startterm last settled)) (λ _. tt) (λ h.
     either-end P (settledZero settled (last - start)) (λ _. tt) (λ z.
-    let a = split _ _ (not-false _ h) in
-    let b = split _ _ (a .0) in
-    let c = split _ _ (b .0) in
-    let above : start ≤ last = leb-true _ _ (c .1) in
-    let limited : last ≤ indexLimit = leb-true _ _ (b .1) in
-    let fits : last - start ≤ room settled = leb-true _ _ (a .1) in
+    let s = ok-sets-up start startterm last settled (not-false _ h) in
+    let above = s .start≤last in
+    let limited = s .last≤limit in
+    let fits = s .settled-room in
     record {
-      starts = c .0;
+      starts = s .starts;
       start≤applied = omega arith;
       applied≤committed = omega arith;
       start≤committed = omega arith;
@@ -204,15 +202,14 @@ module _ (l : Log) (settled pending : List ℕ) where
 
   pub stable-entries-keeps : (i t : ℕ)
       → AfterChanged Good (settleAnswer l settled pending i t) (settleStore (settleAnswer l settled pending i t) l settled pending) pending
-  unfolding settleAnswer settleStore
-  stable-entries-keeps i t =
-      let P : Changed → Type 0 = λ a. AfterChanged Good a (settleStore a l settled pending) pending in
-      either-end P (broken l settled pending) (λ _. tt) (λ h.
-      either-end P (settledOverfull l settled) (λ _. tt) (λ f.
-      either-end P (not (isLast l settled pending i t)) (λ _. tt) (λ y.
-      let g : Good l settled pending = sound-log l settled pending h in
-      let fits : lastOf l - l .start .0 ≤ room settled = ltb-false _ _ f in
-      all-settled g fits _ (length-paste settled ((l .offset .0 - 1 - l .start .0) * recordWords) pending (l .count * recordWords) (omega arith) (omega arith)))))
+  stable-entries-keeps i t = go (settleAnswer l settled pending i t) refl
+    where
+      go : (x : Changed) → settleAnswer l settled pending i t ≡ x → AfterChanged Good x (settleStore x l settled pending) pending
+      go (changed.Now a) e =
+          let (good, fits, same) = settle-room l settled pending i t e in
+          subst (λ (x : Log). Good x (settleStore (changed.Now a) l settled pending) pending) same
+          (all-settled good fits _ (stable-entries-length l settled pending i t a e))
+      go (changed.Refused number) e = tt
 
 -- ---- the cut
 
@@ -239,86 +236,46 @@ cut-good {l} g conflict last persisted a b c d e f h =
     pending-moved g (min (l .offset .0) conflict) (last + 1 - min (l .offset .0) conflict) persisted
     start e above (omega (arith, ends)) (fewer-settled _ _ _ _ smaller (g .settled-room)) d (omega (arith, ends))
 
-length-put-run : (s : List ℕ) (at : ℕ) (run : List ℕ) (k n : ℕ) → length (putRun s at run k n) ≡ length s
-unfolding putRun
-length-put-run s at run k zero = refl
-length-put-run s at run k (suc n) =
-    length-put-run (putRecord s at (recordOf run k)) (at + 1) run (k + 1) n ∙ length-sets s (at * recordWords) (recordOf run k)
-
--- a store with a run put into it, or as it was, is as long as it was
-length-store-if : (b : Bool) (s : List ℕ) (at : ℕ) (run : List ℕ) (k n : ℕ) → length (cond b s (putRun s at run k n)) ≡ length s
-length-store-if true s at run k n = refl
-length-store-if false s at run k n = length-put-run s at run k n
-
 -- ---- `append`
 
 module _ (l : Log) (settled pending : List ℕ) where
-  extend-from-keeps : (run : List ℕ) (first n : ℕ) → Good l settled pending → 0 < first → first - 1 + n ≤ indexLimit
-      → AfterExtended Good (extendFrom l pending first n) settled (extendStore (extendFrom l pending first n) pending run)
-  unfolding extendFrom extendStore
-  extend-from-keeps run first n g some limited =
-      let P : Extended → Type 0 = λ a. AfterExtended Good a settled (extendStore a pending run) in
-      either-end P (startsCommitted l first) (λ _. tt) (λ a.
-      either-end P (leavesGap l first) (λ _. tt) (λ b.
-      either-end P (overfull (extend.extended l first n) pending) (λ _. tt) (λ c.
-      either-end P (startsPersisted l first) (λ _. tt) (λ d.
-      same-room
+  -- a run that has its place
+  in-place-good : (first n : ℕ) {a : Log} → Good l settled pending → first - 1 + n ≤ indexLimit → InPlace l pending first n a → Good a settled pending
+  in-place-good first n g limited p =
+      let above = p .above in
+      subst (λ (x : Log). Good x settled pending) (p .same)
       (cut-good g first (first + n - 1) (l .persisted .0)
-      (leb-false _ _ a) (omega arith) (omega arith) (ltb-false _ _ c)
-      (g .applied≤persisted) (g .persisted<offset) (leb-false _ _ d))
-      refl (length-store-if (eqb (length run) 0) pending _ run _ _)))))
+      above (omega arith) (omega arith) (p .places)
+      (g .applied≤persisted) (g .persisted<offset) (p .fresh))
+
+  -- an empty run leaves the log; another rises from its own first index
+  allowed-good : (run : List ℕ) {a : Log} → Allowed l settled pending run a → Good a settled pending
+  allowed-good run p =
+      let g = whole-good l settled pending (p .whole) in
+      ⊎-elim
+      (λ empty. subst (λ (x : Log). Good x settled pending) (p .none empty) g)
+      (λ some.
+      let bad = neither (eqb (firstOf run) 0) (misnumbered run (firstOf run - 1)) (ap not (second-false (not (eqb (length run) 0)) _ (other-not some) (p .formed .0))) in
+      in-place-good (firstOf run) (runCount run) g (numbered-rises run (firstOf run - 1) (not-false _ (bad .1)) .limited) (p .some some))
+      (same? (length run) 0)
 
   pub append-keeps : (run : List ℕ) → AfterExtended Good (extendAnswer l settled pending run) settled (extendStore (extendAnswer l settled pending run) pending run)
-  unfolding extendAnswer extendStore
-  append-keeps run =
-      let P : Extended → Type 0 = λ a. AfterExtended Good a settled (extendStore a pending run) in
-      either-end P (broken l settled pending) (λ _. tt) (λ h.
-      either-end P (badRun run) (λ _. tt) (λ b.
-      either-end P (zeroTermIn run) (λ _. tt) (λ z.
-      let g : Good l settled pending = sound-log l settled pending h in
-      either-end P (eqb (length run) 0) (λ _. same-room g refl (length-store-if (eqb (length run) 0) pending _ run _ _))
-      (λ e.
-      let bad = either-false (eqb (firstOf run) 0) (misnumbered run (firstOf run - 1)) (second-false (not (eqb (length run) 0)) _ (ap not e) b) in
-      let nonzero : firstOf run ≡ 0 → ⊥ = eqb-false _ _ (bad .0) in
-      extend-from-keeps run (firstOf run) (runCount run) g (omega arith) (numbered-rises run (firstOf run - 1) (not-false _ (bad .1)) .limited)))))
+  append-keeps run = go (extendAnswer l settled pending run) refl
+    where
+      go : (x : Extended) → extendAnswer l settled pending run ≡ x → AfterExtended Good x settled (extendStore x pending run)
+      go (extended.Last i a) e = same-room (allowed-good run (last-allowed l settled pending run e)) refl (append-length pending run _)
+      go (extended.Refused number) e = tt
 
 -- ---- `maybe_append`
 
 module _ {l : Log} {settled pending : List ℕ} (g : Good l settled pending) where
-  -- a record with a term is held
-  held : (i : ℕ) → (termAt l settled pending i ≡ 0 → ⊥) → i ≤ lastOf l
-  held i h =
-      ⊎-elim
-      (λ beyond. absurd (h (term-beyond l settled pending i (omega (arith, g .start≤committed, g .committed≤last)) (omega (arith, g .start<offset)) (omega (arith, g .start<offset)))))
-      (λ within. within)
-      (below-or-not (lastOf l) i)
-
-  -- the previous record is held
-  previous-held : (idx term : ℕ) → outside l idx term ≡ false → termAt l settled pending idx ≡ term → idx ≤ lastOf l
-  unfolding outside
-  previous-held idx term h e =
-      ⊎-elim
-      (λ some. held idx (λ z. omega arith))
-      (λ zero-term.
-      let a = second-false (eqb term 0) _ (eq-eqb term 0 (omega arith)) h in
-      ltb-false _ _ (either-false (ltb idx (l .start .0)) (ltb (lastOf l) idx) a .1))
-      (below-or-not 0 term)
-
   -- where no record differs, the last is held
   last-held : (idx term : ℕ) (run : List ℕ) → outside l idx term ≡ false → termAt l settled pending idx ≡ term → zeroTermIn run ≡ false
       → runCount run ≤ firstFrom (differs l settled pending idx run) 0 (runCount run) → idx + runCount run ≤ lastOf l
   unfolding termsSet
-  last-held idx term run o e z h = go (runCount run) refl
-    where
-      go : (n : ℕ) → runCount run ≡ n → idx + n ≤ lastOf l
-      go zero m =
-          let a : idx ≤ lastOf l = previous-held idx term o e in
-          omega arith
-      go (suc k) m =
-          let same : runTerm run k ≡ termAt l settled pending (idx + 1 + k) = eqb-true _ _ (not-false _ (found (differs l settled pending idx run) 0 (runCount run) .passed k (omega arith) (omega arith))) in
-          let set : runTerm run k ≡ 0 → ⊥ = eqb-false _ _ (found (zeroAt run) 0 (runCount run) .passed k (omega arith) (omega (arith, eqb-true (firstFrom (zeroAt run) 0 (runCount run)) (runCount run) (not-false _ z)))) in
-          let a : idx + 1 + k ≤ lastOf l = held (idx + 1 + k) (λ q. set (same ∙ q)) in
-          omega arith
+  last-held idx term run o e z h =
+      let held : Held l settled pending idx run (runCount run) = record { good = g; within = held-within l settled pending idx term g o e; set = eqb-true _ _ (not-false _ z) } in
+      omega (arith, alike-held held)
 
   -- the log after a message of n records, k of them before the first that differs
   message-good : (idx n k commit : ℕ) → cuts l idx n k ≡ false → (n ≤ k → idx + n ≤ lastOf l) → idx + n ≤ indexLimit
@@ -341,19 +298,17 @@ module _ {l : Log} {settled pending : List ℕ} (g : Good l settled pending) whe
 module _ (l : Log) (settled pending : List ℕ) where
   pub maybe-append-keeps : (idx term commit : ℕ) (run : List ℕ)
       → AfterAppended Good (appendAnswer l settled pending idx term commit run) settled (appendStore (appendAnswer l settled pending idx term commit run) pending idx run)
-  unfolding appendAnswer matchRun decide appendStore
-  maybe-append-keeps idx term commit run =
-      let P : Appended → Type 0 = λ a. AfterAppended Good a settled (appendStore a pending idx run) in
-      let n : ℕ = runCount run in
-      let k : ℕ = firstFrom (differs l settled pending idx run) 0 (runCount run) in
-      either-end P (broken l settled pending) (λ _. tt) (λ b.
-      either-end P (misnumbered run idx) (λ _. tt) (λ u.
-      either-end P (zeroTermIn run) (λ _. tt) (λ z.
-      either-end P (outside l idx term) (λ _. tt) (λ o.
-      either-end P (mismatched l settled pending idx term) (λ _. tt) (λ d.
-      either-end P (cuts l idx n k) (λ _. tt) (λ c.
-      either-end P (overfull (afterMessage l idx n k commit) pending) (λ _. tt) (λ r.
-      let g : Good l settled pending = sound-log l settled pending b in
-      same-room
-      (message-good g idx n k commit c (last-held g idx term run o (eqb-true _ _ (not-false _ d)) z) (numbered-rises run idx (not-false _ u) .limited) r)
-      refl (length-store-if (eqb (append.conflictOf idx n k) 0) pending _ run _ _))))))))
+  maybe-append-keeps idx term commit run = go (appendAnswer l settled pending idx term commit run) refl
+    where
+      go : (x : Appended) → appendAnswer l settled pending idx term commit run ≡ x → AfterAppended Good x settled (appendStore x pending idx run)
+      go (appended.Done c m a) e =
+          let n : ℕ = runCount run in
+          let k : ℕ = firstFrom (differs l settled pending idx run) 0 (runCount run) in
+          let (p, answer) = done-passed l settled pending idx term commit run e in
+          let g = whole-good l settled pending (p .whole) in
+          let same : afterMessage l idx n k commit ≡ a = cc answer in
+          same-room
+          (subst (λ (x : Log). Good x settled pending) same
+          (message-good g idx n k commit (p .spares) (last-held g idx term run (p .inside) (eqb-true _ _ (not-false _ (p .matches))) (p .formed .1)) (numbered-rises run idx (not-false _ (p .formed .0)) .limited) (p .room)))
+          refl (maybe-append-length pending idx run _)
+      go (appended.Refused number) e = tt

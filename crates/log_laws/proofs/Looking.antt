@@ -1,15 +1,16 @@
 -- What the looking calls answer of a good log, said of the list of records that the state and the words stand for.
 use Prim.Native.Nat.{ℕ, zero, suc, _+_, _≤_, _<_}
-use mathlib.Core.Path.{_≡_, refl, sym, ap, _∙_}
-use mathlib.Core.Bool.{Bool, true, false, not, _&&_, _||_, cond}
+use mathlib.Core.Path.{_≡_, sym, ap, _∙_}
+use mathlib.Core.Bool.{Bool, true, false, _&&_, _||_}
 use mathlib.Core.List.{List}
 use mathlib.Core.Logic.{⊎-elim}
 use native.Mathlib.Omega.{arith}
 use lib.Dec.{eqb, leb, ltb}
-use borrow.Author.Tests.{leb-true, leb-false, le-leb, eqb-true, eq-eqb}
+use borrow.Author.Tests.{leb-true, leb-false, le-leb}
 use Rattle.units.specs.declared.Index.{Index}
 use Rattle.units.specs.declared.Term.{Term}
 use Rattle.units.specs.Units.{indexOf, termOf}
+use Rattle.units.proofs.Cond.{either-end, both-ends, past}
 use Rattle.units.proofs.Never.{never}
 use Rattle.rules.specs.Log.{last, term-of}
 use Rattle.raft_log.specs.declared.Log.{Log}
@@ -18,59 +19,45 @@ use Rattle.raft_log.specs.declared.Placed.the-variants as placed
 use Rattle.raft_log.specs.declared.Info.the-variants as info
 use Rattle.raft_log.specs.declared.Told.the-variants as told
 use Rattle.raft_log.specs.declared.ByTerm.the-variants as byterm
-use Rattle.raft_log.specs.State.{Good, broken, agree, lastOf, termAt}
+use Rattle.raft_log.specs.State.{Good, broken, lastOf, termAt}
 use Rattle.raft_log.specs.Look.{lookTerm, lookFirst, lookLast, lookLastTerm, lookCommit, lookUpToDate, lastDown, atMost, foundAt, byTermIn, byTerm}
 use Rattle.raft_log.proofs.Searching.{below-or-not}
-use Rattle.raft_log.proofs.States.{good-ok, term-below, term-start}
+use Rattle.raft_log.proofs.States.{good-whole, zero-start, term-below, term-start}
 use Rattle.log_laws.specs.View.{view-of}
 use Rattle.log_laws.specs.Looking.{FoundBelow}
-use Rattle.log_laws.proofs.Views.{view-start, view-last, view-term}
+use Rattle.log_laws.proofs.Views.{view-start, view-last, held-term}
 
 -- The largest number from i down that p holds of: p holds there, and of none above it.
-pick-within : (b : Bool) (i j : ℕ) → j ≤ i → cond b (suc i) j ≤ suc i
-pick-within true i j h = omega arith
-pick-within false i j h = omega arith
-
 module _ (p : ℕ → Bool) where
-  pick-hit : (b : Bool) (i j : ℕ) → p (suc i) ≡ b → p j ≡ true → p (cond b (suc i) j) ≡ true
-  pick-hit true i j e h = e
-  pick-hit false i j e h = h
-
-  -- k is the place just passed, or lies below it
-  pick-miss : (b : Bool) (i j k : ℕ) → p (suc i) ≡ b → ((n : ℕ) → j < n → n ≤ i → p n ≡ false) → cond b (suc i) j < k → k ≤ suc i → p k ≡ false
-  pick-miss true i j k e miss h g = let z : ⊥ = omega arith in absurd z
-  pick-miss false i j k e miss h g =
-      ⊎-elim (λ a. miss k h (omega arith)) (λ a. let same : k ≡ suc i = omega arith in ap p same ∙ e) (below-or-not k (suc i))
-
   down-within : (i : ℕ) → lastDown p i ≤ i
   unfolding lastDown
   down-within zero = omega arith
-  down-within (suc i) = pick-within (p (suc i)) i (lastDown p i) (down-within i)
+  down-within (suc i) = let low = down-within i in both-ends (λ (x : ℕ). x ≤ suc i) (p (suc i)) (omega arith) (omega arith)
 
   down-hit : (i : ℕ) → p 0 ≡ true → p (lastDown p i) ≡ true
   unfolding lastDown
   down-hit zero h = h
-  down-hit (suc i) h = pick-hit (p (suc i)) i (lastDown p i) refl (down-hit i h)
+  down-hit (suc i) h = either-end (λ (x : ℕ). p x ≡ true) (p (suc i)) (λ here. here) (λ _. down-hit i h)
 
   down-miss : (i k : ℕ) → lastDown p i < k → k ≤ i → p k ≡ false
   unfolding lastDown
-  down-miss zero k h g = let z : ⊥ = omega arith in absurd z
-  down-miss (suc i) k h g = pick-miss (p (suc i)) i (lastDown p i) k refl (down-miss i) h g
+  down-miss zero k = λ h g. let z : ⊥ = omega arith in absurd z
+  down-miss (suc i) k =
+      either-end (λ (x : ℕ). x < k → k ≤ suc i → p k ≡ false) (p (suc i))
+      (λ _ h g. let z : ⊥ = omega arith in absurd z)
+      (λ miss h g. ⊎-elim (λ a. down-miss i k h (omega arith)) (λ a. let same : k ≡ suc i = omega arith in ap p same ∙ miss) (below-or-not k (suc i)))
 
 module _ (l : Log) (settled pending : List ℕ) (good : Good l settled pending) where
   sound : broken l settled pending ≡ false
-  sound = ap not (good-ok l settled pending good)
-
-  held-term : (i : ℕ) → termAt l settled pending i ≡ term-of (view-of l settled pending) i
-  held-term i = sym (view-term l settled pending good i)
+  sound = good-whole l settled pending good
 
   last-term : termAt l settled pending (lastOf l) ≡ term-of (view-of l settled pending) (last (view-of l settled pending))
-  last-term = held-term (lastOf l) ∙ ap (term-of (view-of l settled pending)) (sym (view-last l settled pending good))
+  last-term = held-term l settled pending good (lastOf l) ∙ ap (term-of (view-of l settled pending)) (sym (view-last l settled pending good))
 
   -- THE LAWS, one a call.
   pub term-view : (i : ℕ) → lookTerm l settled pending i ≡ looked.At (termOf (term-of (view-of l settled pending) i))
   unfolding lookTerm
-  term-view i = rw (sound, held-term i)
+  term-view i = rw (sound, held-term l settled pending good i)
 
   pub first-index-view : lookFirst l settled pending ≡ placed.At (indexOf (view-of l settled pending .start + 1))
   unfolding lookFirst
@@ -86,7 +73,7 @@ module _ (l : Log) (settled pending : List ℕ) (good : Good l settled pending) 
 
   pub commit-info-view : lookCommit l settled pending ≡ info.At (l .committed) (termOf (term-of (view-of l settled pending) (l .committed .0)))
   unfolding lookCommit
-  commit-info-view = rw (sound, held-term (l .committed .0))
+  commit-info-view = rw (sound, held-term l settled pending good (l .committed .0))
 
   -- the term at 0 is 0: below the start, or at a start of (0, 0)
   pub at-zero : termAt l settled pending 0 ≡ 0
@@ -94,7 +81,7 @@ module _ (l : Log) (settled pending : List ℕ) (good : Good l settled pending) 
       ⊎-elim (λ h. term-below l settled pending 0 h)
       (λ h.
       let none : l .start .0 ≡ 0 = omega arith in
-      term-start l settled pending 0 (sym none) ∙ eqb-true (l .startterm .0) 0 (sym (ap (λ (b : Bool). agree b (eqb (l .startterm .0) 0)) (eq-eqb (l .start .0) 0 none)) ∙ good .starts))
+      term-start l settled pending 0 (sym none) ∙ zero-start l settled pending good .0 none)
       (below-or-not 0 (l .start .0))
 
   module _ (i t : ℕ) where
@@ -107,22 +94,19 @@ module _ (l : Log) (settled pending : List ℕ) (good : Good l settled pending) 
     found-below : FoundBelow (view-of l settled pending) i t down (termAt l settled pending down)
     found-below = record {
       within = down-within low-enough i;
-      its-term = held-term down;
+      its-term = held-term l settled pending good down;
       low = leb-true (termAt l settled pending down) t (down-hit low-enough i (ap (λ (n : ℕ). leb n t) at-zero ∙ le-leb 0 t (omega arith)));
-      largest = λ k h g. omega (arith, leb-false (termAt l settled pending k) t (down-miss low-enough i k h g), held-term k);
+      largest = λ k h g. omega (arith, leb-false (termAt l settled pending k) t (down-miss low-enough i k h g), held-term l settled pending good k);
     }
 
-    found-at : (b : Bool) (j : Index) (u : Term) → cond b (byterm.Beyond (indexOf i)) (foundAt l settled pending down) ≡ byterm.Found j u → FoundBelow (view-of l settled pending) i t (j .0) (u .0)
-    found-at true j u e = never cc
-    found-at false j u e =
+    pub find-conflict-view : (j : Index) (u : Term) → byTerm l settled pending i t ≡ byterm.Found j u → FoundBelow (view-of l settled pending) i t (j .0) (u .0)
+    unfolding byTerm byTermIn
+    find-conflict-view j u e =
+        let inside : foundAt l settled pending down ≡ byterm.Found j u = past (ltb (lastOf l) i) (λ far. never cc) (rw sound at e) .1 in
         let p : indexOf down ≡ j = cc in
         let q : termOf (termAt l settled pending down) ≡ u = cc in
         rw (sym p, sym q) found-below
 
-    pub find-conflict-view : (j : Index) (u : Term) → byTerm l settled pending i t ≡ byterm.Found j u → FoundBelow (view-of l settled pending) i t (j .0) (u .0)
-    unfolding byTerm byTermIn
-    find-conflict-view j u e = found-at (ltb (lastOf l) i) j u (rw sound at e)
-
   pub up-to-date-view : (i t : ℕ) → lookUpToDate l settled pending i t ≡ told.Is (ltb (term-of (view-of l settled pending) (last (view-of l settled pending))) t || (eqb t (term-of (view-of l settled pending) (last (view-of l settled pending))) && leb (last (view-of l settled pending)) i))
   unfolding lookUpToDate
-  up-to-date-view i t = rw (sound, held-term (lastOf l), view-last l settled pending good)
+  up-to-date-view i t = rw (sound, held-term l settled pending good (lastOf l), view-last l settled pending good)

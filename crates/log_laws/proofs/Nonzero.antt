@@ -1,12 +1,12 @@
 -- Records that all have a nonzero term, as a list and as a log; the paper's receiver keeps them so.
 use Prim.Native.Nat.{ℕ, zero, suc, _+_, _-_, _<_}
 use mathlib.Core.Path.{_≡_, sym, ap, subst, _∙_}
-use mathlib.Core.Bool.{Bool, true, false, cond}
 use mathlib.Core.List.{List, [], _∷_, _++_}
 use native.Mathlib.Omega.{arith}
 use lib.ListN.{length, getD, take, drop}
+use Rattle.units.proofs.Cond.{both-ends}
 use Rattle.rules.specs.Log.{Entry, nothing, Log, last}
-use Rattle.rules.specs.Receiver.{Message, Answer, reply-false, success, contains, conflicts, step-3, step-4, step-5, last-new, receiver, delete-from}
+use Rattle.rules.specs.Receiver.{Message, Answer, reply-false, success, contains, conflicts, step-3, step-4, receiver}
 use Rattle.log_laws.specs.View.{listed}
 use Rattle.log_laws.specs.Keep.{NonzeroTerms}
 use Rattle.log_laws.proofs.Views.{entry-after}
@@ -61,14 +61,10 @@ module _ (l : Log) where
 
 -- ---- the paper's receiver
 
-delete-set : (b : Bool) (l : Log) (i : ℕ) (kept : Log) → AllSet (l .entries) → AllSet (kept .entries) → AllSet (cond b (delete-from l i) kept .entries)
-delete-set true l i kept p q = set-take (i - l .start - 1) (l .entries) p
-delete-set false l i kept p q = q
-
 step-3-set : (l : Log) (i : ℕ) (es : List Entry) → AllSet (l .entries) → AllSet (step-3 l i es .entries)
 unfolding step-3
 step-3-set l i [] p = p
-step-3-set l i (e ∷ es) p = delete-set (conflicts l i e) l i (step-3 l (i + 1) es) p (step-3-set l (i + 1) es p)
+step-3-set l i (e ∷ es) p = both-ends (λ (d : Log). AllSet (d .entries)) (conflicts l i e) (set-take (i - l .start - 1) (l .entries) p) (step-3-set l (i + 1) es p)
 
 step-4-set : (l : Log) (prev : ℕ) (es : List Entry) → AllSet (l .entries) → AllSet es → AllSet (step-4 l prev es .entries)
 unfolding step-4
@@ -79,14 +75,11 @@ abbrev pub AfterSteps : Answer → Type 0
 AfterSteps reply-false = Unit {0}
 AfterSteps (success l commit-index) = NonzeroTerms l
 
-step-2-nonzero : (b : Bool) (l : Log) (commit-index : ℕ) → NonzeroTerms l → AfterSteps (cond b (success l commit-index) reply-false)
-step-2-nonzero true l commit-index h = h
-step-2-nonzero false l commit-index h = tt
-
 pub receiver-nonzero : (l : Log) (commit-index : ℕ) (m : Message) → NonzeroTerms l → AllSet (m .entries) → AfterSteps (receiver l commit-index m)
 unfolding receiver
 receiver-nonzero l commit-index m h q =
     let cut : Log = step-3 l (m .prev-log-index + 1) (m .entries) in
     let longer : Log = step-4 cut (m .prev-log-index) (m .entries) in
-    step-2-nonzero (contains l (m .prev-log-index) (m .prev-log-term)) longer (step-5 commit-index (m .leader-commit) (last-new m))
+    both-ends AfterSteps (contains l (m .prev-log-index) (m .prev-log-term))
     (set-nonzero longer (step-4-set cut (m .prev-log-index) (m .entries) (step-3-set l (m .prev-log-index + 1) (m .entries) (nonzero-set l h)) q))
+    tt

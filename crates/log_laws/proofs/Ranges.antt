@@ -11,7 +11,7 @@ use Rattle.raft_log.specs.Slice.{storePart}
 use Rattle.log_laws.specs.View.{storeEntry, listed, records}
 use Rattle.log_laws.specs.Slicing.{recordsFrom, Reads}
 use Rattle.raft_log.proofs.Slices.{part-some}
-use Rattle.log_laws.proofs.Views.{same-listed, append-listed, entry-after}
+use Rattle.log_laws.proofs.Views.{same-listed, append-listed, listed-two, same-entry, entry-after}
 
 taken-listed : (es : List Entry) (k n : ℕ) → k + n ≤ length es → take n (drop k es) ≡ listed (λ (i : ℕ). getD es i nothing) k n
 unfolding listed
@@ -41,12 +41,6 @@ module _ (log : Abstract) where
       ∙ sym (append-listed (entry-at log) low (mid - low) (high - mid))
       ∙ ap (listed (entry-at log) low) number
       ∙ sym (from-entries low high h (omega arith) m)
-
-same-entry : (s t : List ℕ) (i j : ℕ) → ((w : ℕ) → w < recordWords → getD s (i * recordWords + w) 0 ≡ getD t (j * recordWords + w) 0) → storeEntry s i ≡ storeEntry t j
-same-entry s t i j h =
-    ap₂ (λ (term body : ℕ). record { term = term; body = body })
-    (ap (λ (w : ℕ). getD s w 0) (omega arith) ∙ h 0 (omega arith) ∙ ap (λ (w : ℕ). getD t w 0) (omega arith))
-    (h 1 (omega arith))
 
 module _ (store : List ℕ) (first low high : ℕ) (above : first ≤ low) (order : low ≤ high) (held : high - first ≤ room store) where
   abbrev part : List ℕ
@@ -81,12 +75,9 @@ module _ (xs ys : List ℕ) where
 
   records-joined : (n m : ℕ) → length xs ≡ n * recordWords → records (n + m) both ≡ records n xs ++ records m ys
   records-joined n m long =
-      append-listed (storeEntry both) 0 n m
-      ∙ ap₂ (λ (x y : List Entry). x ++ y)
-      (same-listed (storeEntry both) (storeEntry xs) 0 0 n (λ i h. same-entry both xs (0 + i) (0 + i) (λ w k. List·getD-append xs ys 0 ((0 + i) * recordWords + w) (omega arith))))
-      (same-listed (storeEntry both) (storeEntry ys) (0 + n) 0 m
-      (λ i h. same-entry both ys (0 + n + i) (0 + i)
-      (λ w k. ap (λ (x : ℕ). getD both x 0) (omega arith) ∙ getD-append-add xs ys ((0 + i) * recordWords + w) 0)))
+      listed-two (storeEntry both) (storeEntry xs) (storeEntry ys) n 0 m
+      (λ i h. same-entry both xs i i (λ w k. List·getD-append xs ys 0 (i * recordWords + w) (omega arith)))
+      (λ i h. same-entry both ys (n + i) (0 + i) (λ w k. ap (λ (x : ℕ). getD both x 0) (omega arith) ∙ getD-append-add xs ys ((0 + i) * recordWords + w) 0))
 
   -- Two runs of words, one after the other, read as the range of both.
   pub joined-reads : (log : Abstract) (low mid high : ℕ) → log .start < low → low ≤ mid → mid ≤ high → high ≤ last log + 1 → Reads log low mid xs → Reads log mid high ys → Reads log low high both

@@ -1,12 +1,12 @@
 -- THE THEOREM about `maybe_append`: where it takes a message, it did the receiver's steps of the paper (rules/specs/Receiver.antt) on the log that its stores stand for; where it refuses by 4 or 5, step 2 replies false.
 -- One difference from the paper: committed never falls, so it is the larger of itself and what step 5 says.
 use mathlib.Core.Path.{_≡_, refl, sym, ap, ap₂, subst, _∙_}
-use mathlib.Core.Bool.{Bool, true, false, not, _&&_, _||_, false≢true, cond}
+use mathlib.Core.Bool.{Bool, true, false, not, _&&_, _||_, false≢true, cond, and-false, Bool·not-not}
 use mathlib.Core.Logic.{_⊎_, ⊎-elim, inl, inr}
 use mathlib.Core.List.{List, _++_, append-nil}
 use Prim.Native.Nat.{ℕ, _+_, _-_, _≤_, _<_, min, max}
 use native.Mathlib.Omega.{arith}
-use borrow.Author.Tests.{lt-ltb, le-ltb, le-leb, lt-leb, eq-eqb, ne-eqb, eqb-true, eqb-false, ltb-false, leb-true, not-false}
+use borrow.Author.Tests.{lt-ltb, le-ltb, le-leb, lt-leb, eq-eqb, ne-eqb, eqb-true, ltb-false, leb-true, not-false}
 use lib.Dec.{ltb, eqb, leb}
 use lib.ListN.{length, getD, take, drop, drop-of-length-le}
 use lib.Seq.{length-take-le, take-all}
@@ -16,40 +16,24 @@ use Rattle.rules.proofs.Receiver.{conflict-at, step-3-keeps, step-3-deletes}
 use Rattle.units.specs.Units.{indexOf}
 use Rattle.units.specs.declared.Index.{Index}
 use Rattle.units.specs.Refusals.{outsideLog, mismatch}
-use Rattle.units.proofs.Cond.{past}
+use Rattle.units.proofs.Cond.{both-ends, past}
 use Rattle.units.proofs.Never.{never}
 use Rattle.raft_log.specs.declared.Log.{Log}
 use Rattle.raft_log.specs.declared.Appended.{Appended}
 use Rattle.raft_log.specs.declared.Appended.the-variants.{Done, Refused}
-use Rattle.raft_log.specs.Words.{room, runCount, runTerm, firstFrom, none, putRun}
+use Rattle.raft_log.specs.Words.{room, runCount, runTerm, firstFrom, putRun}
 use Rattle.raft_log.specs.State.{Good, lastOf, broken, termAt}
-use Rattle.raft_log.specs.Run.{misnumbered, zeroTermIn, termsSet}
+use Rattle.raft_log.specs.Run.{misnumbered, zeroTermIn, zeroAt, termsSet}
 use Rattle.raft_log.specs.Append.{cuts, accepted, decide, matchRun, appendAnswer, outside, mismatched, differs, cutIf, commitUp, afterMessage, overfull, appendStore}
 use Rattle.log_laws.specs.View.{runEntry, listed, runEntries, view-of, messageOf}
-use Rattle.raft_log.proofs.States.{split, refuted, ok-good, term-below, term-beyond}
+use Rattle.raft_log.proofs.States.{split, refuted, neither, whole-good, no-term}
 use Rattle.raft_log.proofs.Searching.{below-or-not, found}
-use Rattle.raft_log.proofs.Appending.{no-done}
+use Rattle.raft_log.proofs.Conflicts.{alike-held}
+use Rattle.raft_log.proofs.Appending.{no-done, other-refusal, done-passed}
 use Rattle.log_laws.proofs.Cutting.{view-cut}
 use Rattle.log_laws.proofs.Views.{same?, length-listed, at-listed, drop-listed, view-length, view-last, view-term}
 
 -- ---- step 2
-
-and-false : (b : Bool) → b && false ≡ false
-and-false true = refl
-and-false false = refl
-
-not-not : (b : Bool) → not (not b) ≡ b
-not-not true = refl
-not-not false = refl
-
-module _ (l : Log) (settled pending : List ℕ) (good : Good l settled pending) where
-  -- outside the log the term is 0
-  pub no-term : (i : ℕ) → (i < l .start .0) ⊎ (lastOf l < i) → termAt l settled pending i ≡ 0
-  no-term i h =
-      ⊎-elim
-      (λ a. term-below l settled pending i a)
-      (λ a. let g = good .start<offset in term-beyond l settled pending i (omega arith) (omega arith) (omega arith))
-      h
 
 module _ (l : Log) (settled pending : List ℕ) (good : Good l settled pending) (idx term : ℕ) where
   contains-is : contains (view-of l settled pending) idx term
@@ -82,7 +66,7 @@ module _ (l : Log) (settled pending : List ℕ) (good : Good l settled pending) 
         le-ltb _ _ a,
         le-ltb _ _ b,
         and-false,
-        not-not,
+        Bool·not-not,
       )
 
   -- STEP 2 replies false exactly where 4 or 5 refuses.
@@ -107,7 +91,7 @@ module _ (l : Log) (settled pending : List ℕ) (good : Good l settled pending) 
 -- ---- steps 3 and 4
 
 module _ (l : Log) (settled pending : List ℕ) (good : Good l settled pending) (idx : ℕ) (run : List ℕ)
-    (start≤idx : l .start .0 ≤ idx) (idx≤last : idx ≤ lastOf l) (set : (j : ℕ) → j < runCount run → runTerm run j ≡ 0 → ⊥) where
+    (start≤idx : l .start .0 ≤ idx) (idx≤last : idx ≤ lastOf l) (set : firstFrom (zeroAt run) 0 (runCount run) ≡ runCount run) where
   -- how many records the run has, and how many of them come before the first that differs
   abbrev n : ℕ
   n = runCount run
@@ -152,18 +136,8 @@ module _ (l : Log) (settled pending : List ℕ) (good : Good l settled pending) 
       ∙ ap (λ (d : Bool). ltb (l .start .0) (idx + 1 + k) && leb (idx + 1 + k) (lastOf l) && d) differ
       ∙ simp (lt-ltb (l .start .0) (idx + 1 + k) (omega arith), le-leb _ _ b)
 
-  -- a record before the first that differs has a term, so the log has one at its index
   held : idx + k ≤ lastOf l
-  held =
-      ⊎-elim
-      (λ far.
-      let j : ℕ = k - 1 in
-      let less : j < k = omega arith in
-      let passed = found (differs l settled pending idx run) 0 n .passed j (omega arith) less in
-      let same : runTerm run j ≡ termAt l settled pending (idx + 1 + j) = eqb-true _ _ (not-false _ passed) in
-      absurd (set j (omega (arith, k≤n)) (same ∙ no-term l settled pending good (idx + 1 + j) (inr (omega arith)))))
-      (λ near. near)
-      (below-or-not (lastOf l) (idx + k))
+  held = alike-held {run = run} (record { good = good; within = (start≤idx, idx≤last); set = set })
 
   -- step 4 on a log that ends where the run's record k is the next
   ends : (d : Abstract) → last d ≡ idx + k → step-4 d idx es ≡ with-entries d (d .entries ++ drop k es)
@@ -251,28 +225,7 @@ raised c m x = ⊎-elim (λ h. simp (lt-ltb c m h)) (λ h. simp (le-ltb c m h) (
 -- ---- the theorem
 
 cut-committed : (b : Bool) (l : Log) (conflict last : ℕ) → cutIf b l conflict last .committed ≡ l .committed
-cut-committed true l conflict last = refl
-cut-committed false l conflict last = refl
-
--- n numbers among which the search finds no 0
-pub none-zero : (f : ℕ → ℕ) (n : ℕ) → none (λ k. eqb (f k) 0) n ≡ true → (j : ℕ) → j < n → f j ≡ 0 → ⊥
-none-zero f n h j r =
-    let whole : firstFrom (λ k. eqb (f k) 0) 0 n ≡ n = eqb-true _ _ h in
-    eqb-false _ _ (found (λ k. eqb (f k) 0) 0 n .passed j (omega arith) (omega arith))
-
--- a run whose terms pass the check
-terms-set : (run : List ℕ) → termsSet run ≡ true → (j : ℕ) → j < runCount run → runTerm run j ≡ 0 → ⊥
-unfolding termsSet
-terms-set run h = none-zero (runTerm run) (runCount run) h
-
--- a refusal by one number is none by another
-pub other-refusal : {r s : ℕ} → (r ≡ s → ⊥) → Refused r ≡ Refused s → ⊥
-other-refusal other h = other (cc)
-
-pub neither : (a b : Bool) → not (a || b) ≡ true → (a ≡ false) × (b ≡ false)
-neither true b h = absurd (false≢true h)
-neither false true h = absurd (false≢true h)
-neither false false h = (refl, refl)
+cut-committed b l conflict last = both-ends (λ (x : Log). x .committed ≡ l .committed) b refl refl
 
 module _ (l : Log) (settled pending : List ℕ) (idx term commit : ℕ) (run : List ℕ) where
   -- what the paper's receiver answers
@@ -297,7 +250,7 @@ module _ (l : Log) (settled pending : List ℕ) (idx term commit : ℕ) (run : L
 
   accepted-taken : Good l settled pending → contains (view-of l settled pending) idx term ≡ true → termsSet run ≡ true
       → overfull (afterMessage l idx count alike commit) pending ≡ false → TakenBy (accepted idx count alike (afterMessage l idx count alike commit))
-  unfolding receiver
+  unfolding receiver termsSet
   accepted-taken good there terms fits =
       let w = inside l settled pending good idx term there in
       let long : idx + count ≡ idx + length (runEntries run) = ap (λ (x : ℕ). idx + x) (sym (length-listed (runEntry run) 0 count)) in
@@ -308,7 +261,7 @@ module _ (l : Log) (settled pending : List ℕ) (idx term commit : ℕ) (run : L
             ap
             (λ (b : Bool). cond b (success (step-4 (step-3 (view-of l settled pending) (idx + 1) (runEntries run)) idx (runEntries run)) index) reply-false)
             there
-            ∙ ap (λ (d : Abstract). success d index) (steps-are l settled pending good idx run (w .0) (w .1) (terms-set run terms) commit fits);
+            ∙ ap (λ (d : Abstract). success d index) (steps-are l settled pending good idx run (w .0) (w .1) (eqb-true _ _ terms) commit fits);
         committed =
             ap (λ (x : Index). max (x .0) (min commit (idx + count))) (cut-committed (ltb alike count) l (idx + 1 + alike) (idx + count))
             ∙ ap (λ (x : ℕ). max (l .committed .0) (min commit x)) long
@@ -317,18 +270,11 @@ module _ (l : Log) (settled pending : List ℕ) (idx term commit : ℕ) (run : L
 
   -- THE THEOREM, where the message is taken: the steps of the paper, in order.
   pub taken : (c m : Index) (a : Log) → appendAnswer l settled pending idx term commit run ≡ Done c m a → Taken a (appendStore (Done c m a) pending idx run)
-  unfolding appendAnswer matchRun decide
   taken c m a h =
-      let b1 = past (broken l settled pending) no-done h in
-      let b2 = past (misnumbered run idx) no-done (b1 .1) in
-      let b3 = past (zeroTermIn run) no-done (b2 .1) in
-      let b4 = past (outside l idx term) no-done (b3 .1) in
-      let b5 = past (mismatched l settled pending idx term) no-done (b4 .1) in
-      let b6 = past (cuts l idx count alike) no-done (b5 .1) in
-      let b7 = past (overfull (afterMessage l idx count alike commit) pending) no-done (b6 .1) in
-      let good = ok-good l settled pending (not-false _ (b1 .0)) in
-      let there = step-2-is l settled pending good idx term ∙ ap₂ (λ (x y : Bool). not (x || y)) (b4 .0) (b5 .0) in
-      subst TakenBy (b7 .1) (accepted-taken good there (not-false _ (b3 .0)) (b7 .0))
+      let (passed, answer) = done-passed l settled pending idx term commit run h in
+      let good = whole-good l settled pending (passed .whole) in
+      let there = step-2-is l settled pending good idx term ∙ ap₂ (λ (x y : Bool). not (x || y)) (passed .inside) (passed .matches) in
+      subst TakenBy answer (accepted-taken good there (not-false _ (passed .formed .1)) (passed .room))
 
   -- and where it is refused by 4 or 5: step 2 replies false
   pub refused : (s : ℕ) → (s ≡ outsideLog) ⊎ (s ≡ mismatch) → appendAnswer l settled pending idx term commit run ≡ Refused s → by-the-paper ≡ reply-false
@@ -339,7 +285,7 @@ module _ (l : Log) (settled pending : List ℕ) (idx term commit : ℕ) (run : L
       let b1 = past (broken l settled pending) (other-refusal (omega arith)) h in
       let b2 = past (misnumbered run idx) (other-refusal (omega arith)) (b1 .1) in
       let b3 = past (zeroTermIn run) (other-refusal (omega arith)) (b2 .1) in
-      let good = ok-good l settled pending (not-false _ (b1 .0)) in
+      let good = whole-good l settled pending (b1 .0) in
       let gone : contains (view-of l settled pending) idx term ≡ false = refuted _ (λ there.
       let both = neither (outside l idx term) (mismatched l settled pending idx term) (sym (step-2-is l settled pending good idx term) ∙ there) in
       let decided = sym (ap₂ (λ (x y : Bool). cond x (Refused outsideLog) (cond y (Refused mismatch) (decide l pending idx commit count alike))) (both .0) (both .1)) ∙ b3 .1 in
@@ -349,10 +295,6 @@ module _ (l : Log) (settled pending : List ℕ) (idx term commit : ℕ) (run : L
       ap
       (λ (b : Bool). cond b (success (step-4 (step-3 (view-of l settled pending) (idx + 1) (runEntries run)) idx (runEntries run)) (step-5 (l .committed .0) commit (idx + length (runEntries run)))) reply-false)
       gone
-
-  replied : (b : Bool) (d : Abstract) (x : ℕ) → cond b (success d x) reply-false ≡ reply-false → b ≡ false
-  replied true d x h = never cc
-  replied false d x h = refl
 
   tests : (a b : Bool) → outside l idx term ≡ a → mismatched l settled pending idx term ≡ b → not (a || b) ≡ false
       → broken l settled pending ≡ false → misnumbered run idx ≡ false → zeroTermIn run ≡ false
@@ -367,7 +309,7 @@ module _ (l : Log) (settled pending : List ℕ) (idx term commit : ℕ) (run : L
       → (appendAnswer l settled pending idx term commit run ≡ Refused outsideLog) ⊎ (appendAnswer l settled pending idx term commit run ≡ Refused mismatch)
   unfolding receiver
   refuses h1 h2 h3 h =
-      let good = ok-good l settled pending (not-false _ h1) in
+      let good = whole-good l settled pending h1 in
       tests (outside l idx term) (mismatched l settled pending idx term) refl refl
-      (sym (step-2-is l settled pending good idx term) ∙ replied (contains (view-of l settled pending) idx term) _ _ h)
+      (sym (step-2-is l settled pending good idx term) ∙ past (contains (view-of l settled pending) idx term) (λ said. never cc) h .0)
       h1 h2 h3

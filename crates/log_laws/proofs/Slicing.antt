@@ -1,15 +1,16 @@
 -- `slice`, `entries` and `next_entries_since` give the records of the view, bodies included: each from the first index that was asked for, as far as one store holds them; and a slice from the store boundary on gives the rest.
 use mathlib.Core.Path.{_≡_, refl, sym, ap, _∙_, subst}
-use mathlib.Core.Bool.{Bool, true, false, not, cond}
+use mathlib.Core.Bool.{false, cond}
 use mathlib.Core.List.{List, _++_}
 use mathlib.Core.Logic.{⊎-elim}
 use Prim.Native.Nat.{ℕ, _+_, _≤_, _<_, min}
 use native.Mathlib.Omega.{arith}
 use lib.Dec.{eqb, leb, ltb}
-use borrow.Author.Tests.{eqb-true, eqb-false, ltb-true, ltb-false, leb-true, leb-false, le-ltb, not-false}
+use borrow.Author.Tests.{eqb-true, eqb-false, ltb-true, ltb-false, leb-true, leb-false, le-ltb}
 use Rattle.units.specs.Units.{indexOf, wordMax}
 use Rattle.units.specs.Refusals.{brokenState}
 use Rattle.units.specs.declared.Index.{Index}
+use Rattle.units.proofs.Cond.{either-end}
 use Rattle.rules.specs.Log.{Log as Abstract, last}
 use Rattle.raft_log.specs.declared.Log.{Log}
 use Rattle.raft_log.specs.declared.Bounds.{Bounds}
@@ -20,21 +21,14 @@ use Rattle.raft_log.specs.Slice.{inStore, sliceIn, sliceBounds, entriesBounds, 
 use Rattle.log_laws.specs.View.{storeEntry, view-of}
 use Rattle.log_laws.specs.Slicing.{Reads, Askable, Part, Gives}
 use Rattle.raft_log.proofs.Searching.{below-or-not}
-use Rattle.raft_log.proofs.States.{ok-good, good-ok, not-both, refuted}
+use Rattle.raft_log.proofs.States.{good-whole, whole-good, not-both, refuted}
 use Rattle.raft_log.proofs.Slices.{none-between, in-pending, slice-inside, next-test, next-true, entries-none, next-none}
 use Rattle.log_laws.proofs.Views.{view-start, view-last, entry-settled, entry-pending}
 use Rattle.log_laws.proofs.Ranges.{part-reads, joined-reads}
 
-by-test : (P : Bounds → Type 0) (b : Bool) {x y : Bounds} → (b ≡ true → P x) → (b ≡ false → P y) → P (cond b x y)
-by-test P true f g = f refl
-by-test P false f g = g refl
-
 module _ (l : Log) (settled pending : List ℕ) where
   abbrev view : Abstract
   view = view-of l settled pending
-
-  sound : Good l settled pending → broken l settled pending ≡ false
-  sound good = ap not (good-ok l settled pending good)
 
   -- the parts that lie in one store
   module _ (good : Good l settled pending) (low high : ℕ) (order : low ≤ high) where
@@ -57,7 +51,7 @@ module _ (l : Log) (settled pending : List ℕ) where
 
     unless-broken : (x : Bounds) → (Good l settled pending → Given x) → Given (cond (broken l settled pending) (bounds.Refused brokenState) x)
     unless-broken x f =
-        by-test Given (broken l settled pending) (λ t q. not-both t (sound (q .good))) (λ b. f (ok-good l settled pending (not-false _ b)))
+        either-end Given (broken l settled pending) (λ t q. not-both t (good-whole l settled pending (q .good))) (λ b. f (whole-good l settled pending b))
 
     in-store : Good l settled pending → l .start .0 < low → low ≤ high → high ≤ lastOf l + 1 → (low ≡ high → None) → Given (inStore l low high)
     unfolding inStore partOf
@@ -65,11 +59,11 @@ module _ (l : Log) (settled pending : List ℕ) where
         let first : view .start < low = omega (arith, view-start l settled pending) in
         let final : high ≤ last view + 1 = omega (arith, view-last l settled pending good) in
         let asked : Askable l settled pending low high = record { good = good; first = first; order = k; final = final } in
-        by-test Given (eqb low high)
+        either-end Given (eqb low high)
         (λ t. none (eqb-true low high t))
         (λ f.
         let more : low ≡ high → ⊥ = eqb-false low high f in
-        by-test Given (ltb low (l .offset .0))
+        either-end Given (ltb low (l .offset .0))
         (λ t.
         let below = ltb-true low (l .offset .0) t in
         record { asked = asked; starts = refl; ends = refl; some = omega arith; reads = settled-reads good low (min high (l .offset .0)) (omega arith) h (omega arith) })
@@ -78,13 +72,13 @@ module _ (l : Log) (settled pending : List ℕ) where
     in-range : Good l settled pending → (low ≡ high → None) → Given (sliceIn l low high)
     unfolding sliceIn
     in-range good none =
-        by-test Given (ltb high low)
+        either-end Given (ltb high low)
         (λ t q. omega (arith, ltb-true high low t, q .order))
         (λ a.
-        by-test Given (leb low (l .start .0))
+        either-end Given (leb low (l .start .0))
         (λ t q. omega (arith, leb-true low (l .start .0) t, q .first, view-start l settled pending))
         (λ b.
-        by-test Given (ltb (lastOf l + 1) high)
+        either-end Given (ltb (lastOf l + 1) high)
         (λ t q. omega (arith, ltb-true (lastOf l + 1) high t, q .final, view-last l settled pending good))
         (λ d. in-store good (leb-false low (l .start .0) b) (ltb-false high low a) (ltb-false (lastOf l + 1) high d) none)))
 
@@ -100,7 +94,7 @@ module _ (l : Log) (settled pending : List ℕ) where
       unless-broken i (last view + 1) (last view < i) _
       (λ good.
       rw (view-last l settled pending good)
-      (by-test (Gives l settled pending i (lastOf l + 1) (lastOf l < i)) (ltb (lastOf l) i)
+      (either-end (Gives l settled pending i (lastOf l + 1) (lastOf l < i)) (ltb (lastOf l) i)
       (λ t. ltb-true (lastOf l) i t)
       (λ _. in-range i (lastOf l + 1) (lastOf l < i) good (λ e. omega arith))))
 
@@ -114,26 +108,26 @@ module _ (l : Log) (settled pending : List ℕ) where
     next-gives =
         unless-broken (nextLow l s) (nextHigh l) says-no _
         (λ good.
-        by-test (Gives l settled pending (nextLow l s) (nextHigh l) says-no) (hasNext l s)
+        either-end (Gives l settled pending (nextLow l s) (nextHigh l) says-no) (hasNext l s)
         (λ t.
         let more : nextLow l s < nextHigh l = next-true l s t .1 in
         in-store (nextLow l s) (nextHigh l) says-no good (omega arith) (omega arith) (omega (arith, good .committed≤last)) (λ e. let z : ⊥ = omega arith in absurd z))
-        (λ f. rw (sound good, f)))
+        (λ f. rw (good-whole l settled pending good, f)))
 
   module _ (good : Good l settled pending) where
     -- The converse: where there is none, a good log answers `Empty`.
     pub slice-empty : (low : ℕ) → view .start < low → low ≤ last view + 1 → sliceBounds l settled pending low low ≡ bounds.Empty
     unfolding sliceBounds
     slice-empty low h k =
-        rw (sound good)
+        rw (good-whole l settled pending good)
         (slice-inside l low low (omega arith) (omega (arith, view-start l settled pending)) (omega (arith, view-last l settled pending good)) ∙ none-between l low low refl)
 
     pub entries-empty : (i : ℕ) → last view < i → entriesBounds l settled pending i ≡ bounds.Empty
-    entries-empty i h = entries-none l settled pending i (sound good) (omega (arith, view-last l settled pending good))
+    entries-empty i h = entries-none l settled pending i (good-whole l settled pending good) (omega (arith, view-last l settled pending good))
 
     pub next-empty : (s : ℕ) → says-no s → nextBounds l settled pending s ≡ bounds.Empty
     unfolding hasNextSince
-    next-empty s h = next-none l settled pending s (sound good) (let no : told.Is (hasNext l s) ≡ told.Is false = rw (sound good) at h in cc)
+    next-empty s h = next-none l settled pending s (good-whole l settled pending good) (let no : told.Is (hasNext l s) ≡ told.Is false = rw (good-whole l settled pending good) at h in cc)
 
     next-rule : (s : ℕ) → hasNext l s ≡ ltb (nextLow l s) (nextHigh l)
     next-rule s =
@@ -144,7 +138,7 @@ module _ (l : Log) (settled pending : List ℕ) where
     -- 01, `has_next_entries_since(s)`: "min(committed, persisted) + 1 > max(s + 1, start + 1)". That the answer is no for s = u64::MAX follows from the limit of indices.
     pub has-next-rule : (s : ℕ) → hasNextSince l settled pending s ≡ told.Is (ltb (nextLow l s) (nextHigh l))
     unfolding hasNextSince
-    has-next-rule s = rw (sound good, next-rule s)
+    has-next-rule s = rw (good-whole l settled pending good, next-rule s)
 
 -- PARTS JOINED (01: "Oracle runs join such parts and compare the whole"): where an answer of any of the three calls ended before high, it ended at the store boundary, a slice from there on reaches high, and both parts together are the whole range.
 module _ (l : Log) (settled pending : List ℕ) (low high : ℕ) (None : Type 0) (answer : Bounds) (given : Gives l settled pending low high None answer)
@@ -160,7 +154,7 @@ module _ (l : Log) (settled pending : List ℕ) (low high : ℕ) (None : Type 0)
   goes-on =
       let asked = first-part .asked in
       let here = at-boundary in
-      rw (sound l settled pending (asked .good))
+      rw (good-whole l settled pending (asked .good))
       (slice-inside l (to .0) high (omega arith) (omega (arith, asked .good .start<offset)) (omega (arith, asked .final, view-last l settled pending (asked .good)))
       ∙ in-pending l (to .0) high (omega arith) (omega arith))
 

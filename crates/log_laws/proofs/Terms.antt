@@ -1,14 +1,14 @@
 -- Each call keeps nonzero terms: what it takes passed refusal 3's test, and its other records were there before. And where the term is 0.
 use Prim.Native.Nat.{ℕ, _-_, _<_}
 use mathlib.Core.Path.{_≡_, refl, sym, ap, subst, _∙_}
-use mathlib.Core.Bool.{Bool, true, false, not, false≢true}
+use mathlib.Core.Bool.{Bool, true, false, not}
 use mathlib.Core.Logic.{_⊎_, ⊎-elim, inl, inr}
 use mathlib.Core.List.{List}
 use native.Mathlib.Omega.{arith}
-use borrow.Author.Tests.{eq-eqb, eqb-true, not-false}
+use borrow.Author.Tests.{eqb-false, not-false}
 use lib.Dec.{eqb}
 use lib.ListN.{length, take}
-use Rattle.units.proofs.Cond.{either-end, past}
+use Rattle.units.proofs.Cond.{either-end}
 use Rattle.rules.specs.Log.{Entry, Log as Abstract, last, term-of}
 use Rattle.raft_log.specs.declared.Log.{Log}
 use Rattle.raft_log.specs.declared.Changed.{Changed}
@@ -20,16 +20,17 @@ use Rattle.raft_log.specs.declared.Extended.the-variants as extended
 use Rattle.raft_log.specs.declared.Appended.{Appended}
 use Rattle.raft_log.specs.declared.Appended.the-variants as appended
 use Rattle.raft_log.specs.Words.{runCount, none}
-use Rattle.raft_log.specs.State.{Good, agree, broken, termAt}
-use Rattle.raft_log.specs.Run.{misnumbered, zeroTermIn, termsSet}
+use Rattle.raft_log.specs.State.{Good, termAt}
+use Rattle.raft_log.specs.Run.{zeroTermIn, termsSet}
 use Rattle.raft_log.specs.Append.{appendAnswer, appendStore}
-use Rattle.raft_log.specs.Extend.{firstOf, badRun, extendAnswer, extendStore}
+use Rattle.raft_log.specs.Extend.{firstOf, extendAnswer, extendStore}
 use Rattle.raft_log.specs.Commit.{commitTo, appliedTo, maybeCommit, maybePersist}
 use Rattle.raft_log.specs.Settle.{settleAnswer, settleStore}
 use Rattle.raft_log.specs.Setup.{setupOk, settledZero, setupAnswer}
-use Rattle.raft_log.proofs.Searching.{below-or-not}
-use Rattle.raft_log.proofs.Extending.{no-last}
-use Rattle.raft_log.proofs.Appending.{no-done}
+use Rattle.raft_log.proofs.States.{no-term, zero-start}
+use Rattle.raft_log.proofs.Searching.{below-or-not, none-below}
+use Rattle.raft_log.proofs.Extending.{last-allowed}
+use Rattle.raft_log.proofs.Appending.{done-passed}
 use Rattle.log_laws.specs.View.{storeEntry, runEntry, listed, runEntries, view-of, messageOf}
 use Rattle.log_laws.specs.Keep.{AfterChanged, AfterDecided, AfterExtended, AfterAppended, NonzeroTerms, TermsSet}
 use Rattle.log_laws.proofs.Views.{entry-start, view-last, view-term}
@@ -37,7 +38,7 @@ use Rattle.log_laws.proofs.Looking.{at-zero}
 use Rattle.log_laws.proofs.Unmoved.{SameView, commit-to-view, applied-to-view, maybe-commit-view, maybe-persist-view}
 use Rattle.log_laws.proofs.Fresh.{fresh-view}
 use Rattle.log_laws.proofs.AfterCalls.{Extends, settled-view, extended-view}
-use Rattle.log_laws.proofs.Receiving.{no-term, none-zero, taken}
+use Rattle.log_laws.proofs.Receiving.{taken}
 use Rattle.log_laws.proofs.Nonzero.{AllSet, set-append, set-take, set-listed, nonzero-set, set-nonzero, AfterSteps, receiver-nonzero}
 
 -- ---- what refusal 3 lets through: n records among which its search finds no term 0, and a run
@@ -45,7 +46,7 @@ use Rattle.log_laws.proofs.Nonzero.{AllSet, set-append, set-take, set-l
 searched-set : (f : ℕ → Entry) (n : ℕ) → none (λ k. eqb (f k .term) 0) n ≡ true → AllSet (listed f 0 n)
 searched-set f n h =
     set-listed f 0 n (λ i b.
-    let nonzero : f i .term ≡ 0 → ⊥ = none-zero (λ k. f k .term) n h i (omega arith) in
+    let nonzero : f i .term ≡ 0 → ⊥ = eqb-false _ _ (none-below (λ k. eqb (f k .term) 0) n h i (omega arith)) in
     omega arith)
 
 run-set : (run : List ℕ) → zeroTermIn run ≡ false → AllSet (runEntries run)
@@ -108,45 +109,30 @@ module _ (l : Log) (settled pending : List ℕ) (set : TermsSet l settled pendin
       subst NonzeroTerms (sym e) (set-nonzero _ (set-append (take before held) (runEntries run) (set-take before held (nonzero-set _ set)) (run-set run z)))
 
   pub append-terms : (run : List ℕ) → AfterExtended TermsSet (extendAnswer l settled pending run) settled (extendStore (extendAnswer l settled pending run) pending run)
-  unfolding extendAnswer
   append-terms run = go (extendAnswer l settled pending run) refl
     where
       go : (x : Extended) → extendAnswer l settled pending run ≡ x → AfterExtended TermsSet x settled (extendStore x pending run)
       go (extended.Last i a) e =
-          let b1 = past (broken l settled pending) no-last e in
-          let b2 = past (badRun run) no-last (b1 .1) in
-          let b3 = past (zeroTermIn run) no-last (b2 .1) in
-          extends-terms run (b3 .0) (eqb (length run) 0) a _ (extended-view l settled pending run i a e)
+          extends-terms run (last-allowed l settled pending run e .formed .1) (eqb (length run) 0) a _ (extended-view l settled pending run i a e)
       go (extended.Refused number) e = tt
 
   -- ---- `maybe_append`
 
   pub maybe-append-terms : (idx term commit : ℕ) (run : List ℕ)
       → AfterAppended TermsSet (appendAnswer l settled pending idx term commit run) settled (appendStore (appendAnswer l settled pending idx term commit run) pending idx run)
-  unfolding appendAnswer
   maybe-append-terms idx term commit run = go (appendAnswer l settled pending idx term commit run) refl
     where
       go : (x : Appended) → appendAnswer l settled pending idx term commit run ≡ x → AfterAppended TermsSet x settled (appendStore x pending idx run)
       go (appended.Done c m a) e =
-          let b1 = past (broken l settled pending) no-done e in
-          let b2 = past (misnumbered run idx) no-done (b1 .1) in
-          let b3 = past (zeroTermIn run) no-done (b2 .1) in
           subst AfterSteps (taken l settled pending idx term commit run c m a e .steps)
-          (receiver-nonzero _ (l .committed .0) (messageOf idx term commit run) set (run-set run (b3 .0)))
+          (receiver-nonzero _ (l .committed .0) (messageOf idx term commit run) set (run-set run (done-passed l settled pending idx term commit run e .0 .formed .1)))
       go (appended.Refused number) e = tt
 
 -- ---- where the term is 0
 
-agree-second : (a b : Bool) → agree a b ≡ true → b ≡ true → a ≡ true
-agree-second true b h e = refl
-agree-second false b h e = absurd (false≢true (sym (ap not e) ∙ h))
-
 module _ (l : Log) (settled pending : List ℕ) (good : Good l settled pending) where
   abbrev v : Abstract
   v = view-of l settled pending
-
-  start-zero : l .startterm .0 ≡ 0 → l .start .0 ≡ 0
-  start-zero h = eqb-true _ _ (agree-second (eqb (l .start .0) 0) _ (good .starts) (eq-eqb _ _ h))
 
   -- THE TERM IS 0 only at index 0 and outside the log ..
   pub zero-outside : TermsSet l settled pending → (i : ℕ) → term-of v i ≡ 0 → (i ≡ 0) ⊎ ((i < v .start) ⊎ (last v < i))
@@ -159,7 +145,7 @@ module _ (l : Log) (settled pending : List ℕ) (good : Good l settled pending) 
       ⊎-elim (λ behind. let some : 0 < term-of v i = set i behind within in absurd (omega arith))
       (λ upto.
       let at : i ≡ l .start .0 = omega arith in
-      inl (at ∙ start-zero (sym (ap (λ (e : Entry). e .term) (entry-start l settled pending good i at)) ∙ h)))
+      inl (at ∙ zero-start l settled pending good .1 (sym (ap (λ (e : Entry). e .term) (entry-start l settled pending good i at)) ∙ h)))
       (below-or-not (l .start .0) i))
       (below-or-not (last v) i))
       (below-or-not i (l .start .0))

@@ -1,5 +1,6 @@
 -- The view is what the calls look up: its terms are `termAt`, its last index `lastOf`. And what a write to a store does to its records: those written are the new ones, every other word stays.
 use mathlib.Core.Path.{_≡_, refl, sym, ap, ap₂, _∙_}
+use mathlib.Core.Bool.{Bool, cond}
 use mathlib.Core.Logic.{_⊎_, ⊎-elim, inl, inr}
 use mathlib.Core.List.{List, [], _∷_, _++_}
 use Prim.Native.Nat.{ℕ, zero, suc, _+_, _-_, _*_, _≤_, _<_}
@@ -7,6 +8,7 @@ use native.Mathlib.Omega.{arith}
 use borrow.Author.Tests.{lt-ltb, le-ltb}
 use lib.ListN.{length, getD, set, take, drop, length-append, length-set, List·getD-append, List·getD-eq-default}
 use lib.Seq.{getD-append-add, sets, length-sets, getD-set-same, getD-set-other, getD-take, getD-drop, paste, length-take-le, length-paste-head}
+use Rattle.units.proofs.Cond.{both-ends}
 use Rattle.rules.specs.Log.{Entry, nothing, Log as Abstract, last, entry-at, term-of}
 use Rattle.raft_log.specs.declared.Log.{Log}
 use Rattle.raft_log.specs.Words.{recordWords, room, putRecord, putRun, recordOf}
@@ -24,9 +26,6 @@ same? a b =
 
 abbrev term : Entry → ℕ
 term e = e .term
-
-abbrev entry : ℕ → ℕ → Entry
-entry t b = record { term = t; body = b }
 
 -- ---- the records that a function gives
 
@@ -77,6 +76,22 @@ append-listed f k (suc m) n =
     let e : suc m + n ≡ suc (m + n) = omega arith in
     ap (listed f k) e
     ∙ ap (λ (es : List Entry). f k ∷ es) (append-listed f (k + 1) m n ∙ ap (λ (x : ℕ). listed f (k + 1) m ++ listed f x n) (omega arith))
+
+-- the records of two sources, one after the other
+pub listed-two : (f g h : ℕ → Entry) (m k n : ℕ) → ((i : ℕ) → i < m → f i ≡ g i) → ((i : ℕ) → i < n → f (m + i) ≡ h (k + i))
+    → listed f 0 (m + n) ≡ listed g 0 m ++ listed h k n
+listed-two f g h m k n first second =
+    append-listed f 0 m n
+    ∙ ap₂ (λ (x y : List Entry). x ++ y)
+    (same-listed f g 0 0 m (λ i r. ap f (omega arith) ∙ first i r ∙ ap g (omega arith)))
+    (same-listed f h (0 + m) k n (λ i r. ap f (omega arith) ∙ second i r))
+
+-- a record is its two words
+pub same-entry : (s t : List ℕ) (i j : ℕ) → ((w : ℕ) → w < recordWords → getD s (i * recordWords + w) 0 ≡ getD t (j * recordWords + w) 0) → storeEntry s i ≡ storeEntry t j
+same-entry s t i j h =
+    ap₂ (λ (term body : ℕ). record { term = term; body = body })
+    (ap (λ (w : ℕ). getD s w 0) (omega arith) ∙ h 0 (omega arith) ∙ ap (λ (w : ℕ). getD t w 0) (omega arith))
+    (h 1 (omega arith))
 
 -- ---- the view
 
@@ -176,6 +191,9 @@ module _ (l : Log) (settled pending : List ℕ) (good : Good l settled pending) 
         (same? i (l .start .0)))
         (below-or-not i (l .start .0))
 
+    pub held-term : termAt l settled pending i ≡ term-of (view-of l settled pending) i
+    held-term = sym view-term
+
 -- ---- words stored one after the other
 
 sets-before : (vs s : List ℕ) (i w : ℕ) → w < i → getD (sets s i vs) w 0 ≡ getD s w 0
@@ -204,6 +222,10 @@ unfolding putRun
 length-put s at run k zero = refl
 length-put s at run k (suc n) =
     length-put (putRecord s at (recordOf run k)) (at + 1) run (k + 1) n ∙ length-sets s (at * recordWords) (recordOf run k)
+
+-- so too where it is put only by a test
+pub length-put-or : (b : Bool) (s : List ℕ) (at : ℕ) (run : List ℕ) (k n : ℕ) → length (cond b s (putRun s at run k n)) ≡ length s
+length-put-or b s at run k n = both-ends (λ (x : List ℕ). length x ≡ length s) b refl (length-put s at run k n)
 
 -- every word before the records and every word behind them stays
 pub put-before : (s : List ℕ) (at : ℕ) (run : List ℕ) (k n w : ℕ) → w < at * recordWords → getD (putRun s at run k n) w 0 ≡ getD s w 0
@@ -236,19 +258,15 @@ put-word s at run k (suc n) (suc i) j r h w =
     ∙ put-word (putRecord s at (recordOf run k)) (at + 1) run (k + 1) n i j (omega arith) (omega arith) w
     ∙ ap (λ (x : ℕ). getD (recordOf run x) j 0) (omega arith)
 
--- THE RECORDS of a store that a run was put into: the run's own where it was put, all others as they were.
+-- THE RECORDS of a store that a run was put into: the run's own where it was put, those before as they were.
 module _ (s : List ℕ) (at : ℕ) (run : List ℕ) (k n : ℕ) where
   pub put-inside : (i : ℕ) → at + n ≤ room s → i < n → storeEntry (putRun s at run k n) (at + i) ≡ runEntry run (k + i)
   put-inside i r h =
-      ap₂ entry
-      (ap (λ (w : ℕ). getD (putRun s at run k n) w 0) (omega arith) ∙ put-word s at run k n i 0 r h (omega arith))
-      (put-word s at run k n i 1 r h (omega arith))
+      same-entry (putRun s at run k n) (recordOf run (k + i)) (at + i) 0
+      (λ w b. let here : w ≡ 0 * recordWords + w = omega arith in put-word s at run k n i w r h b ∙ ap (λ (x : ℕ). getD (recordOf run (k + i)) x 0) here)
 
   pub put-below : (i : ℕ) → i < at → storeEntry (putRun s at run k n) i ≡ storeEntry s i
-  put-below i h = ap₂ entry (put-before s at run k n (i * recordWords) (omega arith)) (put-before s at run k n (i * recordWords + 1) (omega arith))
-
-  pub put-above : (i : ℕ) → at + n ≤ i → storeEntry (putRun s at run k n) i ≡ storeEntry s i
-  put-above i h = ap₂ entry (put-after s at run k n (i * recordWords) (omega arith)) (put-after s at run k n (i * recordWords + 1) (omega arith))
+  put-below i h = same-entry (putRun s at run k n) s i i (λ w b. put-before s at run k n (i * recordWords + w) (omega arith))
 
 -- ---- words copied
 
@@ -283,21 +301,11 @@ module _ (s : List ℕ) (at : ℕ) (t : List ℕ) (n : ℕ) (room-here : at + n 
   pasted = paste s (at * recordWords) t (n * recordWords)
 
   pub pasted-below : (i : ℕ) → i < at → storeEntry pasted i ≡ storeEntry s i
-  pasted-below i h =
-      ap₂ entry
-      (paste-before s (at * recordWords) t (n * recordWords) (i * recordWords) (omega arith) (omega arith))
-      (paste-before s (at * recordWords) t (n * recordWords) (i * recordWords + 1) (omega arith) (omega arith))
+  pasted-below i h = same-entry pasted s i i (λ w b. paste-before s (at * recordWords) t (n * recordWords) (i * recordWords + w) (omega arith) (omega arith))
 
   pub pasted-inside : (i : ℕ) → i < n → storeEntry pasted (at + i) ≡ storeEntry t i
   pasted-inside i h =
-      ap₂ entry
-      (ap (λ (w : ℕ). getD pasted w 0) (omega arith)
-      ∙ paste-inside s (at * recordWords) t (n * recordWords) (i * recordWords) (omega arith) (omega arith) (omega arith))
-      (ap (λ (w : ℕ). getD pasted w 0) (omega arith)
-      ∙ paste-inside s (at * recordWords) t (n * recordWords) (i * recordWords + 1) (omega arith) (omega arith) (omega arith))
-
-  pub pasted-above : (i : ℕ) → at + n ≤ i → storeEntry pasted i ≡ storeEntry s i
-  pasted-above i h =
-      ap₂ entry
-      (paste-after s (at * recordWords) t (n * recordWords) (i * recordWords) (omega arith) (omega arith) (omega arith))
-      (paste-after s (at * recordWords) t (n * recordWords) (i * recordWords + 1) (omega arith) (omega arith) (omega arith))
+      same-entry pasted t (at + i) i
+      (λ w b.
+      ap (λ (x : ℕ). getD pasted x 0) (omega arith)
+      ∙ paste-inside s (at * recordWords) t (n * recordWords) (i * recordWords + w) (omega arith) (omega arith) (omega arith))

@@ -1,8 +1,8 @@
--- The answer of `maybe_append`: one law for each answer, on the closed functions of specs/Append.antt; and what an answer with a conflict says to the copy.
+-- The answer of `maybe_append`: one law for each answer, on the closed functions of specs/Append.antt; the table read backwards; and what an answer with a conflict says to the copy.
 use mathlib.Core.Path.{_≡_, sym, ap, _∙_}
-use mathlib.Core.Bool.{true, false}
+use mathlib.Core.Bool.{true, false, _||_}
 use mathlib.Core.List.{List}
-use mathlib.Core.Logic.{⊎-elim}
+use mathlib.Core.Logic.{_⊎_, ⊎-elim, inl, inr}
 use Prim.Native.Nat.{ℕ, _+_, _-_, _≤_, _<_, min, max}
 use native.Mathlib.Omega.{arith}
 use lib.Dec.{ltb}
@@ -18,7 +18,7 @@ use Rattle.raft_log.specs.Words.{room, runCount, firstFrom, putRun}
 use Rattle.raft_log.specs.State.{Good, broken, termAt, lastOf}
 use Rattle.raft_log.specs.Run.{misnumbered, zeroTermIn, checkRun}
 use Rattle.raft_log.specs.Append.{withPending, withCommitted, afterMessage, outside, mismatched, cuts, overfull, differs, conflictOf, accepted, decide, matchRun, appendAnswer, appendStore}
-use Rattle.raft_log.proofs.States.{not-both, term-below, term-beyond}
+use Rattle.raft_log.proofs.States.{not-both, no-term}
 use Rattle.raft_log.proofs.Searching.{same-not, other-not, below-or-not}
 use Rattle.raft_log.proofs.Runs.{run-passed, run-refused, numbered-rises}
 use Rattle.units.proofs.Cond.{past}
@@ -72,30 +72,19 @@ module _ (l : Log) (settled pending : List ℕ) (idx term commit : ℕ) (run : L
 
 -- where it matches, it is held: outside the log the term is 0, and that is refused before
 module _ (l : Log) (settled pending : List ℕ) (idx term : ℕ) (g : Good l settled pending) (u : outside l idx term ≡ false) (e : termAt l settled pending idx ≡ term) where
-  held-low : l .start .0 ≤ idx
+  not-far : (idx < l .start .0) ⊎ (lastOf l < idx) → ltb idx (l .start .0) || ltb (lastOf l) idx ≡ true → ⊥
   unfolding outside
-  held-low =
-      ⊎-elim
-      (λ h.
-      let t : outside l idx term ≡ true = simp (eq-eqb _ _ (sym e ∙ term-below l settled pending idx h), lt-ltb _ _ h) in
-      absurd (not-both t u))
-      (λ h. h)
-      (below-or-not idx (l .start .0))
-
-  held-high : idx ≤ lastOf l
-  unfolding outside
-  held-high =
-      ⊎-elim
-      (λ h.
-      let o = g .start<offset in
-      let q : term ≡ 0 = sym e ∙ term-beyond l settled pending idx (omega arith) (omega arith) (omega arith) in
-      let t : outside l idx term ≡ true = simp (eq-eqb _ _ q, le-ltb idx (l .start .0) (omega arith), lt-ltb _ _ h) in
-      absurd (not-both t u))
-      (λ h. h)
-      (below-or-not (lastOf l) idx)
+  not-far w far =
+      let zero-term : term ≡ 0 = sym e ∙ no-term l settled pending g idx w in
+      let t : outside l idx term ≡ true = simp (eq-eqb _ _ zero-term, far) in
+      not-both t u
 
   pub held-within : (l .start .0 ≤ idx) × (idx ≤ lastOf l)
-  held-within = (held-low, held-high)
+  held-within =
+      let o = g .start<offset in (
+        ⊎-elim (λ h. absurd (not-far (inl h) (simp (lt-ltb _ _ h)))) (λ h. h) (below-or-not idx (l .start .0)),
+        ⊎-elim (λ h. absurd (not-far (inr h) (simp (le-ltb idx (l .start .0) (omega arith), lt-ltb _ _ h)))) (λ h. h) (below-or-not (lastOf l) idx),
+      )
 
 -- ---- the whole table
 
@@ -120,6 +109,48 @@ module _ (l : Log) (settled pending : List ℕ) (idx term commit : ℕ) (run : L
       let p = run-passed run idx e in
       simp (h, p .numbers, p .terms, p .count)
 
+-- ---- the table read backwards: what an answer that takes the message says
+
+pub no-done : {r : ℕ} {c m : Index} {l : Log} → Refused r ≡ Done c m l → ⊥
+no-done h = never cc
+
+-- a refusal by one number is none by another
+pub other-refusal : {r s : ℕ} → (r ≡ s → ⊥) → Refused r ≡ Refused s → ⊥
+other-refusal other h = other cc
+
+module _ (l : Log) (settled pending : List ℕ) (idx term commit : ℕ) (run : List ℕ) where
+  -- how many records the run has, how many of them come before the first that differs, and the log after them
+  abbrev n : ℕ
+  n = runCount run
+
+  abbrev alike : ℕ
+  alike = firstFrom (differs l settled pending idx run) 0 n
+
+  abbrev after : Log
+  after = afterMessage l idx n alike commit
+
+  -- no test of the table holds
+  pub record Passed : Type 0 where
+    pub whole : broken l settled pending ≡ false
+    pub formed : (misnumbered run idx ≡ false) × (zeroTermIn run ≡ false)
+    pub inside : outside l idx term ≡ false
+    pub matches : mismatched l settled pending idx term ≡ false
+    pub spares : cuts l idx n alike ≡ false
+    pub room : overfull after pending ≡ false
+
+  -- so it is where a message is taken, and the answer is the table's last line
+  pub done-passed : {c m : Index} {a : Log} → appendAnswer l settled pending idx term commit run ≡ Done c m a → Passed × (accepted idx n alike after ≡ Done c m a)
+  unfolding appendAnswer matchRun decide
+  done-passed h =
+      let t1 = past (broken l settled pending) no-done h in
+      let t2 = past (misnumbered run idx) no-done (t1 .1) in
+      let t3 = past (zeroTermIn run) no-done (t2 .1) in
+      let t4 = past (outside l idx term) no-done (t3 .1) in
+      let t5 = past (mismatched l settled pending idx term) no-done (t4 .1) in
+      let t6 = past (cuts l idx n alike) no-done (t5 .1) in
+      let t7 = past (overfull after pending) no-done (t6 .1) in
+      (record { whole = t1 .0; formed = (t2 .0, t3 .0); inside = t4 .0; matches = t5 .0; spares = t6 .0; room = t7 .0 }, t7 .1)
+
 -- ---- what an answer with a conflict says
 
 -- the records from the conflict up to last are within the run, and those from offset on have their places
@@ -131,17 +162,10 @@ pub record Cut (places idx n : ℕ) (c m : Index) (after : Log) : Type 0 where
   pub fits : m .0 + 1 - after .offset .0 ≤ places
   pub limited : idx + n ≤ indexLimit
 
-pub no-done : {r : ℕ} {c m : Index} {l : Log} → Refused r ≡ Done c m l → ⊥
-no-done h = never cc
-
-decide-inv : (l : Log) (pending : List ℕ) (idx commit n k : ℕ) {c m : Index} {after : Log}
-    → idx + n ≤ indexLimit → decide l pending idx commit n k ≡ Done c m after → (c .0 ≡ 0 → ⊥) → Cut (room pending) idx n c m after
-unfolding decide
-decide-inv l pending idx commit n k {c} {m} {after} limit h z =
-    let i = past (cuts l idx n k) no-done h in
-    let j = past (overfull (afterMessage l idx n k commit) pending) no-done (i .1) in
-    let room-left : overfull (afterMessage l idx n k commit) pending ≡ false = j .0 in
-    let answer : accepted idx n k (afterMessage l idx n k commit) ≡ Done c m after = j .1 in
+accepted-cut : (l : Log) (pending : List ℕ) (idx commit n k : ℕ) {c m : Index} {after : Log}
+    → idx + n ≤ indexLimit → overfull (afterMessage l idx n k commit) pending ≡ false → accepted idx n k (afterMessage l idx n k commit) ≡ Done c m after
+    → (c .0 ≡ 0 → ⊥) → Cut (room pending) idx n c m after
+accepted-cut l pending idx commit n k {c} {m} {after} limit room-left answer z =
     let conflict : indexOf (conflictOf idx n k) ≡ c = cc in
     let last : indexOf (idx + n) ≡ m = cc in
     let log : afterMessage l idx n k commit ≡ after = cc in
@@ -161,12 +185,9 @@ decide-inv l pending idx commit n k {c} {m} {after} limit h z =
 pub answer-cut : (l : Log) (settled pending : List ℕ) (idx term commit : ℕ) (run : List ℕ) {c m : Index} {after : Log}
     → appendAnswer l settled pending idx term commit run ≡ Done c m after → (c .0 ≡ 0 → ⊥)
     → Cut (room pending) idx (runCount run) c m after
-unfolding appendAnswer matchRun
 answer-cut l settled pending idx term commit run h z =
-    let numbers = past (misnumbered run idx) no-done (past (broken l settled pending) no-done h .1) in
-    let terms = past (zeroTermIn run) no-done (numbers .1) in
-    let before = past (mismatched l settled pending idx term) no-done (past (outside l idx term) no-done (terms .1) .1) in
-    decide-inv l pending idx commit (runCount run) _ (numbered-rises run idx (not-false _ (numbers .0)) .limited) (before .1) z
+    let p = done-passed l settled pending idx term commit run h in
+    accepted-cut l pending idx commit (runCount run) _ (numbered-rises run idx (not-false _ (p .0 .formed .0)) .limited) (p .0 .room) (p .1) z
 
 -- ---- the store
 

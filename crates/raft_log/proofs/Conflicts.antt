@@ -1,18 +1,18 @@
 -- The first record of a run that differs from the log: each store is compared where the run's records would stand in it, and past the last record all differ.
 use mathlib.Core.Path.{_≡_, sym, ap, subst, _∙_}
 use mathlib.Core.List.{List}
-use mathlib.Core.Logic.{⊎-elim}
+use mathlib.Core.Logic.{⊎-elim, inr}
 use Prim.Native.Nat.{ℕ, _+_, _-_, _≤_, _<_, min}
 use native.Mathlib.Nat.{zero-add}
 use native.Mathlib.Omega.{arith}
-use borrow.Author.Tests.{eqb-true, eqb-false, not-false}
+use borrow.Author.Tests.{eq-eqb, eqb-true, eqb-false, not-false}
 use Rattle.raft_log.specs.declared.Log.{Log}
 use Rattle.raft_log.specs.Words.{runTerm, storeTerm, firstFrom, otherTerm}
 use Rattle.raft_log.specs.State.{Good, lastOf, termAt}
 use Rattle.raft_log.specs.Run.{zeroAt}
 use Rattle.raft_log.specs.Append.{differs}
-use Rattle.raft_log.proofs.States.{not-both, term-settled, term-pending, term-beyond}
-use Rattle.raft_log.proofs.Searching.{Found, found, found-is, same-not, other-not, below-or-not}
+use Rattle.raft_log.proofs.States.{not-both, term-settled, term-pending, no-term}
+use Rattle.raft_log.proofs.Searching.{Found, found, found-is, none-below, same-not, other-not, below-or-not}
 
 -- the previous record is held, and the run's n terms are set
 pub record Held (l : Log) (settled pending : List ℕ) (idx : ℕ) (run : List ℕ) (n : ℕ) : Type 0 where
@@ -59,13 +59,21 @@ module _ {l : Log} {settled pending : List ℕ} {idx : ℕ} {run : List ℕ} {n 
   -- past the last record the log's term is 0, and the run's is not
   beyond : {r : ℕ} → r < n → lastOf l ≤ idx + r → agrees l settled pending idx run r → ⊥
   beyond {r} h w q =
-      let f = found (zeroAt run) 0 n in
-      let i = held .within in
-      let o = held .good .start<offset in
-      let a : l .start .0 < idx + 1 + r = omega (arith, i) in
-      let b : l .offset .0 ≤ idx + 1 + r = omega (arith, i, o) in
-      let d : l .count ≤ idx + 1 + r - l .offset .0 = omega (arith, i, o) in
-      eqb-false _ _ (f .passed r (omega arith) (omega (arith, held .set))) (q ∙ term-beyond l settled pending (idx + 1 + r) a b d)
+      eqb-false _ _ (none-below (zeroAt run) n (eq-eqb _ _ (held .set)) r h)
+      (q ∙ no-term l settled pending (held .good) (idx + 1 + r) (inr (omega arith)))
+
+  -- so the log holds every record before the first that differs
+  pub alike-held : idx + firstFrom (differs l settled pending idx run) 0 n ≤ lastOf l
+  alike-held =
+      let k : ℕ = firstFrom (differs l settled pending idx run) 0 n in
+      let f = found (differs l settled pending idx run) 0 n in
+      ⊎-elim
+      (λ far.
+      let high = held .within .1 in
+      let before : k - 1 < k = omega arith in
+      absurd (beyond {r = k - 1} (omega (arith, f .within)) (omega arith) (eqb-true _ _ (not-false _ (f .passed (k - 1) (omega arith) before)))))
+      (λ near. near)
+      (below-or-not (lastOf l) (idx + k))
 
   in-settled : {r : ℕ} (m : ℕ) → idx + 1 + m ≤ l .offset .0 → r ≡ firstFrom (otherTerm settled (idx - l .start .0) run 0) 0 m
       → Stretch l settled pending idx run 0 m r

@@ -1,4 +1,4 @@
--- The answer of `append`: one law for each answer, on the closed functions of specs/Extend.antt; and what an answer with records says to the copy.
+-- The answer of `append`: one law for each answer, on the closed functions of specs/Extend.antt; the table read backwards; and what an answer with records says to the copy.
 use mathlib.Core.Path.{_≡_, sym, ap}
 use mathlib.Core.Bool.{true, false}
 use mathlib.Core.List.{List}
@@ -6,7 +6,7 @@ use mathlib.Core.Logic.{⊎-elim}
 use Prim.Native.Nat.{ℕ, _+_, _-_, _≤_, _<_, min}
 use native.Mathlib.Omega.{arith}
 use lib.ListN.{length}
-use borrow.Author.Tests.{eq-eqb, ne-eqb, le-leb, lt-leb, lt-ltb, le-ltb, ltb-false}
+use borrow.Author.Tests.{eq-eqb, ne-eqb, le-leb, lt-leb, lt-ltb, le-ltb, ltb-false, leb-false}
 use Rattle.units.specs.Units.{indexOf}
 use Rattle.units.specs.Refusals.{brokenState, misnumberedRun, cutsCommitted, noRoom, outOfRange}
 use Rattle.units.specs.declared.Index.{Index}
@@ -91,6 +91,51 @@ module _ (l : Log) (settled pending run : List ℕ) where
             let p = run-passed run (firstOf run - 1) e in
             simp (ok, ne-eqb _ _ some, ne-eqb _ _ starts, p .numbers, p .terms, p .count)
 
+-- ---- the table read backwards: what an answer that is no refusal says
+
+pub no-last : {r : ℕ} {m : Index} {l : Log} → Refused r ≡ Last m l → ⊥
+no-last h = never cc
+
+-- a run from `first` on passed the tests of its place
+pub record InPlace (l : Log) (pending : List ℕ) (first n : ℕ) (after : Log) : Type 0 where
+  pub above : l .committed .0 < first
+  pub follows : first ≤ lastOf l + 1
+  pub places : extended l first n .count ≤ room pending
+  pub fresh : l .persisted .0 < first
+  pub same : extended l first n ≡ after
+
+from-in-place : (l : Log) (pending : List ℕ) (first n : ℕ) {m : Index} {after : Log} → extendFrom l pending first n ≡ Last m after → InPlace l pending first n after
+unfolding extendFrom
+from-in-place l pending first n h =
+    let committed = past (startsCommitted l first) no-last h in
+    let gap = past (leavesGap l first) no-last (committed .1) in
+    let full = past (overfull (extended l first n) pending) no-last (gap .1) in
+    let answer = past (startsPersisted l first) no-last (full .1) in
+    record { above = leb-false _ _ (committed .0); follows = ltb-false _ _ (gap .0); places = ltb-false _ _ (full .0); fresh = leb-false _ _ (answer .0); same = cc (answer .1) }
+
+module _ (l : Log) (settled pending run : List ℕ) where
+  -- no test of the table held: an empty run leaves the log, another has its place
+  pub record Allowed (after : Log) : Type 0 where
+    pub whole : broken l settled pending ≡ false
+    pub formed : (badRun run ≡ false) × (zeroTermIn run ≡ false)
+    pub none : length run ≡ 0 → l ≡ after
+    pub some : (length run ≡ 0 → ⊥) → InPlace l pending (firstOf run) (runCount run) after
+
+  pub last-allowed : {m : Index} {after : Log} → extendAnswer l settled pending run ≡ Last m after → Allowed after
+  unfolding extendAnswer
+  last-allowed {m} {after} h =
+      let whole = past (broken l settled pending) no-last h in
+      let numbers = past (badRun run) no-last (whole .1) in
+      let terms = past (zeroTermIn run) no-last (numbers .1) in
+      record {
+        whole = whole .0;
+        formed = (numbers .0, terms .0);
+        none = λ e.
+            let same : Last (indexOf (lastOf l)) l ≡ Last m after = simp (eq-eqb _ _ e) at (terms .1) in
+            cc same;
+        some = λ e. from-in-place l pending (firstOf run) (runCount run) (simp (ne-eqb _ _ e) at (terms .1));
+      }
+
 -- ---- what an answer with records says
 
 -- the records from offset on have their places, and the run begins among them
@@ -98,28 +143,13 @@ pub record Extends (places first n : ℕ) (after : Log) : Type 0 where
   pub kept : after .offset .0 ≤ first
   pub fits : first + n - after .offset .0 ≤ places
 
-pub no-last : {r : ℕ} {m : Index} {l : Log} → Refused r ≡ Last m l → ⊥
-no-last h = never cc
-
-from-inv : (l : Log) (pending : List ℕ) (first n : ℕ) {m : Index} {after : Log} → extendFrom l pending first n ≡ Last m after
-    → Extends (room pending) first n after
-unfolding extendFrom
-from-inv l pending first n {m} {after} h =
-    let gap = past (leavesGap l first) no-last (past (startsCommitted l first) no-last h .1) in
-    let full = past (overfull (extended l first n) pending) no-last (gap .1) in
-    let answer : Last (indexOf (first + n - 1)) (extended l first n) ≡ Last m after = past (startsPersisted l first) no-last (full .1) .1 in
-    let places : first + n - 1 + 1 - min (l .offset .0) first ≤ room pending = ltb-false _ _ (full .0) in
-    let same : extended l first n ≡ after = cc in
-    let e : min (l .offset .0) first ≡ after .offset .0 = ap (λ (x : Log). x .offset .0) same in
-    record { kept = omega arith; fits = omega arith }
-
 pub extend-cut : (l : Log) (settled pending run : List ℕ) {m : Index} {after : Log} → extendAnswer l settled pending run ≡ Last m after
     → (length run ≡ 0 → ⊥) → Extends (room pending) (firstOf run) (runCount run) after
-unfolding extendAnswer
 extend-cut l settled pending run h some =
-    let numbers = past (badRun run) no-last (past (broken l settled pending) no-last h .1) in
-    let terms = past (zeroTermIn run) no-last (numbers .1) in
-    from-inv l pending (firstOf run) (runCount run) (simp (ne-eqb _ _ some) at (terms .1))
+    let p = last-allowed l settled pending run h .some some in
+    let places = p .places in
+    let e = ap (λ (x : Log). x .offset .0) (p .same) in
+    record { kept = omega arith; fits = omega arith }
 
 -- ---- the store
 

@@ -5,9 +5,9 @@ use mathlib.Core.Logic.{_⊎_, ⊎-elim, inl, inr}
 use Prim.Native.Nat.{ℕ, zero, suc, _+_, _-_, _≤_, _<_}
 use native.Mathlib.Omega.{arith}
 use lib.Dec.{eqb, ltb}
-use borrow.Author.Tests.{eq-eqb, ne-eqb, ltb-true, ltb-false}
+use borrow.Author.Tests.{eq-eqb, ne-eqb, ltb-true, ltb-false, eqb-true}
 use Rattle.units.proofs.Cond.{either-end}
-use Rattle.raft_log.specs.Words.{firstFrom}
+use Rattle.raft_log.specs.Words.{firstFrom, none}
 use Rattle.raft_log.proofs.States.{not-both}
 
 pub same-not : {a b : ℕ} → a ≡ b → not (eqb a b) ≡ false
@@ -57,24 +57,27 @@ pub record Found (p : ℕ → Bool) (k n r : ℕ) : Type 0 where
   pub hit : r < k + n → p r ≡ true
   pub passed : (j : ℕ) → k ≤ j → j < r → p j ≡ false
 
+module _ {p : ℕ → Bool} {k n : ℕ} where
+  found-here : p k ≡ true → Found p k (suc n) k
+  found-here t = record { within = omega arith; hit = λ h. t; passed = λ j h w. absurd (omega arith) }
+
+  found-later : {r : ℕ} → Found p (k + 1) n r → p k ≡ false → Found p k (suc n) r
+  found-later f t = record {
+    within = omega (arith, f .within);
+    hit = λ h. f .hit (omega arith);
+    passed = λ j h w.
+        ⊎-elim
+        (λ lt. f .passed j (omega arith) w)
+        (λ le.
+        let e : k ≡ j = omega arith in
+        subst (λ (x : ℕ). p x ≡ false) e t)
+        (below-or-not k j);
+  }
+
 pub found : (p : ℕ → Bool) (k n : ℕ) → Found p k n (firstFrom p k n)
 unfolding firstFrom
 found p k zero = record { within = omega arith; hit = λ h. absurd (omega arith); passed = λ j h w. absurd (omega arith) }
-found p k (suc n) =
-    let f = found p (k + 1) n in
-    either-end (Found p k (suc n)) (p k)
-    (λ t. record { within = omega arith; hit = λ h. t; passed = λ j h w. absurd (omega arith) })
-    (λ t. record {
-      within = omega (arith, f .within);
-      hit = λ h. f .hit (omega arith);
-      passed = λ j h w.
-          ⊎-elim
-          (λ lt. f .passed j (omega arith) w)
-          (λ le.
-          let e : k ≡ j = omega arith in
-          subst (λ (x : ℕ). p x ≡ false) e t)
-          (below-or-not k j);
-    })
+found p k (suc n) = either-end (Found p k (suc n)) (p k) found-here (found-later (found p (k + 1) n))
 
 -- and it is the only such place
 pub found-is : {p : ℕ → Bool} {n r s : ℕ} → Found p 0 n r → Found p 0 n s → r ≡ s
@@ -87,3 +90,13 @@ found-is {p} {n} {r} {s} f g =
     (λ le. omega arith)
     (below-or-not s r))
     (below-or-not r s)
+
+-- p holds of none of n positions: as the test says, and of each
+module _ (p : ℕ → Bool) (n : ℕ) where
+  pub none-below : none p n ≡ true → (j : ℕ) → j < n → p j ≡ false
+  none-below h j r = found p 0 n .passed j (omega arith) (omega (arith, eqb-true (firstFrom p 0 n) n h))
+
+  pub below-none : ((j : ℕ) → j < n → p j ≡ false) → none p n ≡ true
+  below-none h =
+      eq-eqb (firstFrom p 0 n) n
+      (found-is (found p 0 n) (record { within = omega arith; hit = λ r. absurd (omega arith); passed = λ j _ r. h j r }))

@@ -4,7 +4,7 @@ use mathlib.Core.Bool.{true, false, not}
 use mathlib.Core.List.{List}
 use Prim.Native.Nat.{ℕ, _+_, _-_, _*_, _≤_, _<_}
 use lib.Seq.{paste}
-use borrow.Author.Tests.{eq-eqb, ne-eqb, lt-ltb, le-ltb, eqb-true, eqb-false, ltb-false, not-true, not-false}
+use borrow.Author.Tests.{eq-eqb, ne-eqb, lt-ltb, le-ltb, eqb-true, eqb-false, ltb-false, not-true}
 use Rattle.units.specs.Refusals.{brokenState, noRoom, notPending}
 use Rattle.raft_log.specs.declared.Log.{Log}
 use Rattle.raft_log.specs.declared.Changed.{Changed}
@@ -13,7 +13,7 @@ use Rattle.raft_log.specs.Words.{room, recordWords}
 use Rattle.raft_log.specs.State.{Good, broken, termAt, lastOf}
 use Rattle.raft_log.specs.Append.{withPending}
 use Rattle.raft_log.specs.Settle.{isLast, settledOverfull, settledLog, settleAnswer, settleStore}
-use Rattle.raft_log.proofs.States.{split, refuted, ok-good}
+use Rattle.raft_log.proofs.States.{split, refuted, whole-good}
 use Rattle.units.proofs.Cond.{past}
 use Rattle.units.proofs.Never.{never}
 
@@ -55,21 +55,18 @@ pub no-now : {r : ℕ} {a : Log} → Refused r ≡ Now a → ⊥
 no-now h = never cc
 
 module _ (l : Log) (settled pending : List ℕ) where
+  -- where the answer is a log no test held, and it is the log with all records settled
   pub settle-room : (i t : ℕ) {a : Log} → settleAnswer l settled pending i t ≡ Now a
-      → Good l settled pending × (lastOf l - l .start .0 ≤ room settled)
+      → Good l settled pending × (lastOf l - l .start .0 ≤ room settled) × (settledLog l ≡ a)
   unfolding settleAnswer
   settle-room i t h =
       let s = past (broken l settled pending) no-now h in
       let r = past (settledOverfull l settled) no-now (s .1) in
-      (ok-good l settled pending (not-false _ (s .0)), ltb-false _ _ (r .0))
+      let e = past (not (isLast l settled pending i t)) no-now (r .1) in
+      (whole-good l settled pending (s .0), ltb-false _ _ (r .0), cc (e .1))
 
   pub settle-log : (i t : ℕ) {a : Log} → settleAnswer l settled pending i t ≡ Now a → settledLog l ≡ a
-  unfolding settleAnswer
-  settle-log i t h =
-      let s = past (broken l settled pending) no-now h in
-      let r = past (settledOverfull l settled) no-now (s .1) in
-      let e = past (not (isLast l settled pending i t)) no-now (r .1) in
-      cc (e .1)
+  settle-log i t h = settle-room i t h .2
 
   pub settled-kept : {x : Changed} {r : ℕ} → x ≡ Refused r → settled ≡ settleStore x l settled pending
   unfolding settleStore

@@ -1,13 +1,15 @@
 -- The state rules as a test and as facts say the same; and the term at an index, by where the index stands.
 use mathlib.Core.Path.{_≡_, refl, sym, ap, _∙_}
-use mathlib.Core.Bool.{Bool, true, false, not, _&&_, false≢true, and-eq-true-iff}
+use mathlib.Core.Bool.{Bool, true, false, not, _&&_, _||_, false≢true, and-eq-true-iff}
 use mathlib.Core.List.{List}
+use mathlib.Core.Logic.{_⊎_, ⊎-elim, _↔_}
 use Prim.Native.Nat.{ℕ, _-_, _≤_, _<_}
 use native.Mathlib.Omega.{arith}
-use borrow.Author.Tests.{lt-ltb, le-ltb, le-leb, eq-eqb, ne-eqb, ltb-true, leb-true, not-false}
+use borrow.Author.Tests.{lt-ltb, le-ltb, le-leb, eq-eqb, ne-eqb, ltb-true, leb-true, eqb-true, not-true, not-false}
+use lib.Dec.{eqb}
 use Rattle.raft_log.specs.declared.Log.{Log}
 use Rattle.raft_log.specs.Words.{storeTerm}
-use Rattle.raft_log.specs.State.{Good, stateOk, broken, termAt}
+use Rattle.raft_log.specs.State.{Good, agree, stateOk, broken, lastOf, termAt}
 
 pub split : (a b : Bool) → a && b ≡ true → (a ≡ true) × (b ≡ true)
 split a b = and-eq-true-iff a b .0
@@ -19,6 +21,15 @@ refuted false h = refl
 
 pub not-both : {b : Bool} → b ≡ true → b ≡ false → ⊥
 not-both p q = false≢true (sym q ∙ p)
+
+-- where it is not so that one holds, neither does
+pub neither : (a b : Bool) → not (a || b) ≡ true → (a ≡ false) × (b ≡ false)
+neither true b h = absurd (false≢true h)
+neither false b h = (refl, not-true b h)
+
+agreed : (a b : Bool) → agree a b ≡ true → a ≡ b
+agreed true b h = sym h
+agreed false b h = sym (not-true b h)
 
 module _ (l : Log) (settled pending : List ℕ) where
   pub good-ok : Good l settled pending → stateOk l settled pending ≡ true
@@ -65,6 +76,13 @@ module _ (l : Log) (settled pending : List ℕ) where
         last≤limit = leb-true _ _ (a .1);
       }
 
+  -- a log is good exactly if no rule is broken
+  pub good-whole : Good l settled pending → broken l settled pending ≡ false
+  good-whole g = ap not (good-ok g)
+
+  pub whole-good : broken l settled pending ≡ false → Good l settled pending
+  whole-good h = ok-good (not-false _ h)
+
   -- where a rule is broken
   pub bad-state : (Good l settled pending → ⊥) → stateOk l settled pending ≡ false
   bad-state h = refuted _ (λ e. h (ok-good e))
@@ -92,6 +110,20 @@ module _ (l : Log) (settled pending : List ℕ) where
     unfolding termAt
     term-beyond h k m =
         simp (le-ltb i (l .start .0) (omega arith), ne-eqb i (l .start .0) (omega arith), le-ltb _ _ k, le-ltb _ _ m)
+
+  module _ (good : Good l settled pending) where
+    -- outside the log the term is 0
+    pub no-term : (i : ℕ) → (i < l .start .0) ⊎ (lastOf l < i) → termAt l settled pending i ≡ 0
+    no-term i =
+        ⊎-elim
+        (term-below i)
+        (λ beyond. let o = good .start<offset in term-beyond i (omega arith) (omega arith) (omega arith))
+
+    -- "start index 0 exactly if start term 0"
+    pub zero-start : (l .start .0 ≡ 0) ↔ (l .startterm .0 ≡ 0)
+    zero-start =
+        let same = agreed (eqb (l .start .0) 0) (eqb (l .startterm .0) 0) (good .starts) in
+        (λ z. eqb-true _ _ (sym same ∙ eq-eqb _ _ z), λ z. eqb-true _ _ (same ∙ eq-eqb _ _ z))
 
 -- what the code's `!state_ok(..)` tells: the rules, where it says no; and its answer is the test's
 pub passed : {l : Log} {settled pending : List ℕ} {told : Bool} → told ≡ stateOk l settled pending → not told ≡ false → Good l settled pending

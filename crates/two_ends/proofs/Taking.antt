@@ -11,7 +11,7 @@ use lib.ListN.{length, getD}
 use Rattle.units.specs.Units.{indexLimit}
 use Rattle.units.specs.declared.Index.{Index}
 use Rattle.rules.specs.Log.{Entry, nothing, Log as Abstract, last, entry-at, term-of, Matching, Agree}
-use Rattle.rules.specs.Receiver.{success, contains, step-5, receiver, reply-false}
+use Rattle.rules.specs.Receiver.{reply-false, success, contains, step-5, receiver}
 use Rattle.raft_log.specs.declared.Log.{Log}
 use Rattle.raft_log.specs.declared.Appended.{Appended}
 use Rattle.raft_log.specs.declared.Appended.the-variants as appended
@@ -19,11 +19,11 @@ use Rattle.raft_log.specs.Words.{runCount, runTerm}
 use Rattle.raft_log.specs.State.{Good, termAt}
 use Rattle.raft_log.specs.Append.{differs, cuts, outside, mismatched, matchRun, appendAnswer}
 use Rattle.raft_log.proofs.Searching.{below-or-not, found, same-not}
-use Rattle.raft_log.proofs.States.{split, refuted, not-both, good-ok}
+use Rattle.raft_log.proofs.States.{split, refuted, not-both, neither, good-ok}
 use Rattle.log_laws.specs.View.{runEntry, runEntries}
 use Rattle.log_laws.specs.Keep.{NonzeroTerms}
 use Rattle.log_laws.proofs.Views.{view-term, at-listed}
-use Rattle.log_laws.proofs.Receiving.{taken, step-2-is, neither}
+use Rattle.log_laws.proofs.Receiving.{taken, step-2-is}
 use Rattle.two_ends.specs.Follower.{Follower, held, committed, Message, last-index, outcome-of, answer-to, engine, alike, HasRoom}
 use Rattle.two_ends.specs.Leader.{whole-list, CutFrom}
 use Rattle.two_ends.specs.TwoEnds.{HoldsPrevious, Keeps}

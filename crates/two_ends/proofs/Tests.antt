@@ -14,9 +14,9 @@ use Rattle.raft_log.specs.Words.{runCount}
 use Rattle.raft_log.specs.State.{broken}
 use Rattle.raft_log.specs.Run.{misnumbered, zeroTermIn}
 use Rattle.raft_log.specs.Append.{afterMessage, outside, mismatched, cuts, overfull, accepted, decide, matchRun, appendAnswer, appendStore}
-use Rattle.raft_log.proofs.Appending.{no-done}
-use Rattle.two_ends.specs.Follower.{Follower, Message, WellFormed, answer-to, outcome-of, engine, alike, HasRoom}
-use Rattle.log_laws.proofs.Receiving.{other-refusal}
+use Rattle.raft_log.proofs.Appending.{no-done, other-refusal}
+use Rattle.raft_log.proofs.Appending as appending
+use Rattle.two_ends.specs.Follower.{Follower, Message, WellFormed, answer-to, outcome-of, engine, alike}
 
 module _ (f : Follower) (m : Message) where
   abbrev n : ℕ
@@ -26,25 +26,11 @@ module _ (f : Follower) (m : Message) where
   after = afterMessage (f .log) (m .idx) n (alike f m) (m .commit)
 
   -- No test of the table holds.
-  pub record Passed : Type 0 where
-    pub whole : broken (f .log) (f .settled) (f .pending) ≡ false
-    pub formed : WellFormed m
-    pub inside : outside (f .log) (m .idx) (m .term) ≡ false
-    pub matches : mismatched (f .log) (f .settled) (f .pending) (m .idx) (m .term) ≡ false
-    pub spares : cuts (f .log) (m .idx) n (alike f m) ≡ false
-    pub room : HasRoom f m
+  abbrev pub Passed : Type 0
+  Passed = appending.Passed (f .log) (f .settled) (f .pending) (m .idx) (m .term) (m .commit) (m .run)
 
   pub done-passed : (c k : Index) (a : Log) → answer-to f m ≡ Done c k a → Passed × (accepted (m .idx) n (alike f m) after ≡ Done c k a)
-  unfolding appendAnswer matchRun decide
-  done-passed c k a e =
-      let t1 = past (broken (f .log) (f .settled) (f .pending)) no-done e in
-      let t2 = past (misnumbered (m .run) (m .idx)) no-done (t1 .1) in
-      let t3 = past (zeroTermIn (m .run)) no-done (t2 .1) in
-      let t4 = past (outside (f .log) (m .idx) (m .term)) no-done (t3 .1) in
-      let t5 = past (mismatched (f .log) (f .settled) (f .pending) (m .idx) (m .term)) no-done (t4 .1) in
-      let t6 = past (cuts (f .log) (m .idx) n (alike f m)) no-done (t5 .1) in
-      let t7 = past (overfull after (f .pending)) no-done (t6 .1) in
-      (record { whole = t1 .0; formed = (t2 .0, t3 .0); inside = t4 .0; matches = t5 .0; spares = t6 .0; room = t7 .0 }, t7 .1)
+  done-passed c k a = appending.done-passed (f .log) (f .settled) (f .pending) (m .idx) (m .term) (m .commit) (m .run)
 
   pub passed-done : Passed → answer-to f m ≡ accepted (m .idx) n (alike f m) after
   unfolding appendAnswer matchRun decide
