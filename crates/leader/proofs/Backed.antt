@@ -5,11 +5,11 @@ use mathlib.Core.Bool.{Bool, true, false, cond}
 use mathlib.Core.List.{List}
 use mathlib.Core.Logic.{_⊎_, inl, inr, ⊎-map}
 use native.Mathlib.Omega.{arith}
-use borrow.Author.Tests.{ltb-true, leb-true, eqb-true, not-false}
-use Rattle.units.specs.Units.{wordMax}
+use borrow.Author.Tests.{ltb-true, leb-true, eqb-true}
 use Rattle.units.specs.Refusals.{brokenState, brokenSet, bothChecks}
 use Rattle.units.specs.declared.Check.{Check}
 use Rattle.units.specs.declared.Check.the-variants as check
+use Rattle.units.proofs.Cond.{either-end, past, taken}
 use Rattle.units.proofs.Never.{never}
 use Rattle.quorum.specs.Rows.{rowsCheck}
 use Rattle.quorum.specs.Half.{halfIndex, joined}
@@ -20,27 +20,21 @@ use Rattle.quorum.specs.declared.Committed.the-variants as found
 use Rattle.quorum.specs.declared.half.Half.{Half}
 use Rattle.quorum.specs.declared.joint.JointConfig.{JointConfig}
 use Rattle.quorum.specs.declared.rows.Peer.{Peer}
-use Rattle.quorum_laws.proofs.Joint.{backs-up-to-index}
+use Rattle.quorum_laws.proofs.Joint.{half-backs}
 use Rattle.quorum_laws.proofs.Answers.{JointWhole, joint-index-refused}
-use Rattle.raft_log.specs.State.{Good, lastOf, broken, termAt}
+use Rattle.raft_log.specs.State.{lastOf, broken, termAt}
 use Rattle.raft_log.specs.Append.{withCommitted}
 use Rattle.raft_log.specs.Commit.{mayCommit, maybeCommit}
 use Rattle.raft_log.specs.declared.Log.{Log}
 use Rattle.raft_log.specs.declared.Decided.{Decided}
 use Rattle.raft_log.specs.declared.Decided.the-variants as decided
-use Rattle.raft_log.proofs.States.{split, ok-good}
+use Rattle.raft_log.proofs.States.{split}
 use Rattle.leader.specs.Leader.{commitFound, leaderCommit}
 use Rattle.leader.specs.Rule.{MayCommit}
 
 module _ (l : Log) (settled pending : List ℕ) (term : ℕ) where
   -- the log's own step says yes
-  says-yes : (b c : Bool) (n : ℕ) (after : Log) → cond b (decided.Refused brokenState) (cond c (decided.Yes (withCommitted l n)) decided.No) ≡ decided.Yes after → (b ≡ false) × ((c ≡ true) × (withCommitted l n ≡ after))
-  says-yes true c n after e = (cc, (cc, cc))
-  says-yes false true n after e = (refl, (refl, cc))
-  says-yes false false n after e = (refl, (cc, cc))
-
   pub record Yes (n : ℕ) (after : Log) : Type 0 where
-    pub good : Good l settled pending
     pub higher : l .committed .0 < n
     pub held : n ≤ lastOf l
     pub own-term : termAt l settled pending n ≡ term
@@ -49,30 +43,19 @@ module _ (l : Log) (settled pending : List ℕ) (term : ℕ) where
   yes-then : (n : ℕ) (after : Log) → maybeCommit l settled pending n term ≡ decided.Yes after → Yes n after
   unfolding maybeCommit
   yes-then n after e =
-      let y = says-yes (broken l settled pending) (mayCommit l settled pending n term) n after e in
-      let all = split _ _ (y .1 .0) in
+      let may = taken (mayCommit l settled pending n term) (λ h. never cc) (past (broken l settled pending) (λ h. never cc) e .1) in
+      let all = split _ _ (may .0) in
       let bounds = split _ _ (all .0) in
       record {
-        good = ok-good l settled pending (not-false _ (y .0));
         higher = ltb-true _ _ (bounds .0);
         held = leb-true _ _ (bounds .1);
         own-term = eqb-true _ _ (all .1);
-        is = sym (y .1 .1);
+        is = cc (may .1);
       }
-
--- a refusal of the quorum's is handed on
-never-yes : (b : Bool) (m : ℕ) (after : Log) → cond b (decided.Refused brokenState) (decided.Refused m) ≡ decided.Yes after → ⊥
-never-yes true m after e = never cc
-never-yes false m after e = never cc
 
 -- a refusal is the log's own, or the answer's
 by-state : (b : Bool) (a : Decided) (n : ℕ) → cond b (decided.Refused brokenState) a ≡ decided.Refused n → ((b ≡ true) × (n ≡ brokenState)) ⊎ (a ≡ decided.Refused n)
-by-state true a n e = inl (refl, cc)
-by-state false a n e = inr e
-
-never-refused : (b : Bool) (l : Log) (n : ℕ) → cond b (decided.Yes l) decided.No ≡ decided.Refused n → ⊥
-never-refused true l n e = never cc
-never-refused false l n e = never cc
+by-state b a n = either-end (λ x. x ≡ decided.Refused n → ((b ≡ true) × (n ≡ brokenState)) ⊎ (a ≡ decided.Refused n)) b (λ t e. inl (t, cc)) (λ t e. inr e)
 
 module _ (l : Log) (settled pending : List ℕ) (term : ℕ) (config : JointConfig) (peers : List Peer) where
   abbrev in-both : Half
@@ -80,7 +63,7 @@ module _ (l : Log) (settled pending : List ℕ) (term : ℕ) (config : JointConf
 
   by-check : (k : Check) (after : Log) → commitFound l settled pending term (indexUnless k in-both) ≡ decided.Yes after → maybeCommit l settled pending (in-both .index) term ≡ decided.Yes after
   by-check check.Fine after e = e
-  by-check (check.Refused m) after e = absurd (never-yes (broken l settled pending) m after e)
+  by-check (check.Refused m) after e = never (cc (past (broken l settled pending) (λ h. never cc) e .1))
 
   -- THE THEOREM: what it commits, a majority of every nonempty half has acknowledged, and it is of the leader's own term.
   pub commits-by-the-rule : (after : Log) → leaderCommit l settled pending term config peers ≡ decided.Yes after
@@ -90,14 +73,13 @@ module _ (l : Log) (settled pending : List ℕ) (term : ℕ) (config : JointConf
       let n = in-both .index in
       let y = yes-then l settled pending term n after (by-check (bothChecks (configCheck config) (rowsCheck peers)) after e) in
       let same : after .committed .0 ≡ n = ap (λ (a : Log). a .committed .0) (y .is) in
-      let fits : n ≤ wordMax = omega (arith, y .held, y .good .last≤limit) in
       let rule : MayCommit l settled pending term config peers n =
       record {
         higher = y .higher;
         held = y .held;
         own-term = y .own-term;
-        by-incoming = backs-up-to-index (acksOf peers (config .incoming)) n fits .0 (omega arith);
-        by-outgoing = backs-up-to-index (acksOf peers (config .outgoing)) n fits .0 (omega arith);
+        by-incoming = half-backs (acksOf peers (config .incoming)) n (omega arith);
+        by-outgoing = half-backs (acksOf peers (config .outgoing)) n (omega arith);
       } in
       (y .is ∙ ap (withCommitted l) (sym same), subst (MayCommit l settled pending term config peers) (sym same) rule)
 
@@ -125,7 +107,7 @@ module _ (l : Log) (settled pending : List ℕ) (term : ℕ) (config : JointConf
     where
       by-found : (c : Committed) → jointIndex config peers ≡ c → commitFound l settled pending term c ≡ decided.Refused n
           → ((broken l settled pending ≡ true) × (n ≡ brokenState)) ⊎ ((¬ JointWhole config peers) × (n ≡ brokenSet))
-      by-found (found.At i free) q h = ⊎-map (λ b. b) (λ a. absurd (never-refused (mayCommit l settled pending (i .0) term) _ n a)) (by-state (broken l settled pending) _ n h)
+      by-found (found.At i free) q h = ⊎-map (λ b. b) (λ a. never (cc (past (mayCommit l settled pending (i .0) term) (λ h. never cc) a .1))) (by-state (broken l settled pending) _ n h)
       by-found (found.Refused m) q h =
           ⊎-map (λ b. b) (λ a.
           let r = joint-index-refused config peers m .0 q in

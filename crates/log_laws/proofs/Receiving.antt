@@ -6,13 +6,12 @@ use mathlib.Core.Logic.{_⊎_, ⊎-elim, inl, inr}
 use mathlib.Core.List.{List, _++_, append-nil}
 use Prim.Native.Nat.{ℕ, _+_, _-_, _≤_, _<_, min, max}
 use native.Mathlib.Omega.{arith}
-use borrow.Author.Tests.{lt-ltb, le-ltb, le-leb, lt-leb, eq-eqb, ne-eqb, eqb-true, ltb-false, leb-true, not-false}
+use borrow.Author.Tests.{lt-ltb, le-ltb, le-leb, lt-leb, eq-eqb, ne-eqb, eqb-true, eqb-false, ltb-false, leb-true, not-false}
 use lib.Dec.{ltb, eqb, leb}
-use lib.ListN.{length, getD, take, drop, drop-of-length-le}
-use lib.Seq.{length-take-le, take-all}
+use lib.ListN.{length, getD, drop, drop-of-length-le}
 use Rattle.rules.specs.Log.{Entry, nothing, Log as Abstract, last}
-use Rattle.rules.specs.Receiver.{Answer, reply-false, success, contains, conflicts, with-entries, step-3, step-4, step-5, receiver}
-use Rattle.rules.proofs.Receiver.{conflict-at, step-3-keeps, step-3-deletes}
+use Rattle.rules.specs.Receiver.{Answer, reply-false, success, contains, conflicts, with-entries, delete-from, step-3, step-4, step-5, receiver}
+use Rattle.rules.proofs.Receiver.{contains-holds, conflict-at, step-3-keeps, step-3-deletes, delete-none, cut-on, steps, raised}
 use Rattle.units.specs.Units.{indexOf}
 use Rattle.units.specs.declared.Index.{Index}
 use Rattle.units.specs.Refusals.{outsideLog, mismatch}
@@ -31,7 +30,7 @@ use Rattle.raft_log.proofs.Searching.{below-or-not, found}
 use Rattle.raft_log.proofs.Conflicts.{alike-held}
 use Rattle.raft_log.proofs.Appending.{no-done, other-refusal, done-passed}
 use Rattle.log_laws.proofs.Cutting.{view-cut}
-use Rattle.log_laws.proofs.Views.{same?, length-listed, at-listed, drop-listed, view-length, view-last, view-term}
+use Rattle.log_laws.proofs.Views.{same?, length-listed, at-listed, drop-listed, view-last, view-term}
 
 -- ---- step 2
 
@@ -83,10 +82,8 @@ module _ (l : Log) (settled pending : List ℕ) (good : Good l settled pending) 
 
   -- what step 2 lets through has its previous record in the log
   inside : contains (view-of l settled pending) idx term ≡ true → (l .start .0 ≤ idx) × (idx ≤ lastOf l)
-  inside h =
-      let s = split _ _ (sym contains-is ∙ h) in
-      let r = split _ _ (s .0) in
-      (leb-true _ _ (r .0), leb-true _ _ (r .1))
+  unfolding view-of
+  inside h = let s = contains-holds (view-of l settled pending) idx term .0 h .0 in (s .0, omega (arith, s .1, view-last l settled pending good))
 
 -- ---- steps 3 and 4
 
@@ -139,32 +136,23 @@ module _ (l : Log) (settled pending : List ℕ) (good : Good l settled pending) 
   held : idx + k ≤ lastOf l
   held = alike-held {run = run} (record { good = good; within = (start≤idx, idx≤last); set = set })
 
-  -- step 4 on a log that ends where the run's record k is the next
-  ends : (d : Abstract) → last d ≡ idx + k → step-4 d idx es ≡ with-entries d (d .entries ++ drop k es)
-  unfolding step-4
-  ends d h = let e : last d - idx ≡ k = omega arith in ap (λ (x : ℕ). with-entries d (d .entries ++ drop x es)) e
+  -- step 3 leaves the log before the first record that differs, or all of it where that comes after the last
+  deletes : k < n → step-3 v (idx + 1) es ≡ delete-from v (idx + 1 + k)
+  deletes h =
+      ⊎-elim
+      (λ b.
+      let next : last v + 1 ≡ idx + 1 + k = omega (arith, view-last l settled pending good, held) in
+      step-3-keeps v (idx + 1) es (λ j q. ⊎-elim (λ a. before j a) (λ a. beyond j (omega (arith, es-length)) (omega arith)) (below-or-not j k))
+      ∙ sym (delete-none v) ∙ ap (delete-from v) next)
+      (λ b. step-3-deletes v (idx + 1) k es (omega (arith, es-length)) before (hit h b))
+      (below-or-not (lastOf l) (idx + 1 + k))
 
-  abbrev stay : List Entry
-  stay = take (idx + 1 + k - l .start .0 - 1) (v .entries)
-
-  cut-inside : k < n → idx + 1 + k ≤ lastOf l → step-4 (step-3 v (idx + 1) es) idx es ≡ with-entries v (stay ++ drop k es)
+  steps-cut : k < n → step-4 (step-3 v (idx + 1) es) idx es ≡ cut-on v (idx + 1 + k) (drop k es)
   unfolding view-of
-  cut-inside h b =
-      let long = view-length l settled pending good in
-      ap (λ (d : Abstract). step-4 d idx es) (step-3-deletes v (idx + 1) k es (omega (arith, es-length)) before (hit h b))
-      ∙ ends (with-entries v stay) (omega (arith, length-take-le (idx + 1 + k - l .start .0 - 1) (v .entries) (omega arith)))
-
-  cut-end : k < n → lastOf l < idx + 1 + k → step-4 (step-3 v (idx + 1) es) idx es ≡ with-entries v (stay ++ drop k es)
-  cut-end h b =
-      let long = view-length l settled pending good in
-      let step : step-3 v (idx + 1) es ≡ v =
-      step-3-keeps v (idx + 1) es (λ j q. ⊎-elim (λ a. before j a) (λ a. beyond j (omega (arith, es-length)) (omega arith)) (below-or-not j k)) in
-      ap (λ (d : Abstract). step-4 d idx es) step
-      ∙ ends v (omega (arith, view-last l settled pending good, held))
-      ∙ ap (λ (x : List Entry). with-entries v (x ++ drop k es)) (sym (take-all (idx + 1 + k - l .start .0 - 1) (v .entries) (omega (arith, held))))
-
-  steps-cut : k < n → step-4 (step-3 v (idx + 1) es) idx es ≡ with-entries v (stay ++ drop k es)
-  steps-cut h = ⊎-elim (λ b. cut-end h b) (λ b. cut-inside h b) (below-or-not (lastOf l) (idx + 1 + k))
+  steps-cut h =
+      let same : idx + 1 + k - (idx + 1) ≡ k = omega arith in
+      steps v (idx + 1 + k) (omega arith) (omega (arith, view-last l settled pending good, held)) idx es start≤idx (omega arith) (deletes h)
+      ∙ ap (λ (x : ℕ). cut-on v (idx + 1 + k) (drop x es)) same
 
   steps-none : n ≤ k → step-4 (step-3 v (idx + 1) es) idx es ≡ v
   unfolding step-4
@@ -191,7 +179,7 @@ module _ (l : Log) (settled pending : List ℕ) (good : Good l settled pending) 
     unfolding appendStore view-of
     result-none = refl
 
-    result-cut : k < n → after true .count ≤ room pending → with-entries v (stay ++ drop k es) ≡ result true
+    result-cut : k < n → after true .count ≤ room pending → cut-on v (idx + 1 + k) (drop k es) ≡ result true
     unfolding appendStore view-of
     result-cut h r =
         let conflict : ℕ = idx + 1 + k in
@@ -200,7 +188,7 @@ module _ (l : Log) (settled pending : List ℕ) (good : Good l settled pending) 
         let store : List ℕ = putRun pending (conflict - min (l .offset .0) conflict) run from many in
         let rest : drop k es ≡ listed (runEntry run) from many =
         drop-listed (runEntry run) 0 n k k≤n ∙ ap₂ (listed (runEntry run)) (omega arith) (omega arith) in
-        ap (λ (x : List Entry). with-entries v (stay ++ x)) rest
+        ap (cut-on v conflict) rest
         ∙ sym (view-cut l settled pending good conflict (omega arith) (omega (arith, held)) run from many (idx + n) (min (l .persisted .0) (conflict - 1)) (omega arith) r)
         ∙ ap (λ (b : Bool). view-of (after true) settled (cond b pending store)) (sym (ne-eqb conflict 0 (omega arith)))
 
@@ -214,13 +202,6 @@ module _ (l : Log) (settled pending : List ℕ) (good : Good l settled pending) 
         steps-cut h ∙ result-cut h (rw cuts at fits) ∙ ap result (sym cuts))
         (λ h. steps-none h ∙ result-none ∙ ap result (sym (le-ltb k n h)))
         (below-or-not k n)
-
--- ---- step 5
-
--- committed is the larger of itself and what step 5 says
-pub raised : (c m x : ℕ) → max c (step-5 c m x) ≡ max c (min m x)
-unfolding step-5
-raised c m x = ⊎-elim (λ h. simp (lt-ltb c m h)) (λ h. simp (le-ltb c m h) (omega arith)) (below-or-not c m)
 
 -- ---- the theorem
 

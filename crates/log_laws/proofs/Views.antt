@@ -9,7 +9,7 @@ use borrow.Author.Tests.{lt-ltb, le-ltb}
 use lib.ListN.{length, getD, set, take, drop, length-append, length-set, List·getD-append, List·getD-eq-default}
 use lib.Seq.{getD-append-add, sets, length-sets, getD-set-same, getD-set-other, getD-take, getD-drop, paste, length-take-le, length-paste-head}
 use Rattle.units.proofs.Cond.{both-ends}
-use Rattle.rules.specs.Log.{Entry, nothing, Log as Abstract, last, entry-at, term-of}
+use Rattle.rules.specs.Log.{Entry, entry, nothing, Log as Abstract, last, entry-at, term-of}
 use Rattle.raft_log.specs.declared.Log.{Log}
 use Rattle.raft_log.specs.Words.{recordWords, room, putRecord, putRun, recordOf}
 use Rattle.raft_log.specs.State.{Good, lastOf, termAt}
@@ -100,7 +100,7 @@ pub entry-after : (log : Abstract) (i : ℕ) → log .start < i → entry-at log
 unfolding entry-at
 entry-after log i h =
     let e : i - log .start ≡ suc (i - log .start - 1) = omega arith in
-    simp (le-ltb i (log .start) (omega arith)) (ap (λ (j : ℕ). getD (record { term = log .start-term; body = 0 } ∷ log .entries) j nothing) e)
+    simp (le-ltb i (log .start) (omega arith)) (ap (λ (j : ℕ). getD (entry (log .start-term) 0 ∷ log .entries) j nothing) e)
 
 pub view-start : (l : Log) (settled pending : List ℕ) → view-of l settled pending .start ≡ l .start .0
 unfolding view-of
@@ -108,7 +108,7 @@ view-start l settled pending = refl
 
 module _ (l : Log) (settled pending : List ℕ) (good : Good l settled pending) where
   abbrev start : Entry
-  start = record { term = l .startterm .0; body = 0 }
+  start = entry (l .startterm .0) 0
 
   abbrev front : List Entry
   front = records (l .offset .0 - 1 - l .start .0) settled
@@ -121,12 +121,6 @@ module _ (l : Log) (settled pending : List ℕ) (good : Good l settled pending) 
 
   back-length : length back ≡ l .count
   back-length = length-listed (storeEntry pending) 0 (l .count)
-
-  pub view-length : length (view-of l settled pending .entries) ≡ lastOf l - l .start .0
-  unfolding view-of
-  view-length =
-      let a = good .start<offset in
-      omega (arith, length-append front back, front-length, back-length)
 
   pub view-last : last (view-of l settled pending) ≡ lastOf l
   unfolding view-of

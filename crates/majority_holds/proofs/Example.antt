@@ -8,7 +8,7 @@ use lib.Dec.{eqb, lit<, lit≤}
 use lib.ListN.{getD}
 use Rattle.units.specs.Units.{indexOf}
 use Rattle.rules.specs.Count.{count}
-use Rattle.rules.specs.Log.{Entry, entry-at, Same, Matching}
+use Rattle.rules.specs.Log.{Entry, entry, whole-list, Same}
 use Rattle.rules.specs.Majority.{insert, falling, kth-largest, committed}
 use Rattle.quorum.specs.Ids.{zero-if, position, has, distinct}
 use Rattle.quorum.specs.Voters.{setOf}
@@ -19,23 +19,20 @@ use Rattle.quorum.specs.declared.joint.JointConfig.{JointConfig}
 use Rattle.quorum.specs.declared.rows.Peer.{Peer}
 use Rattle.quorum.specs.declared.rows.Ack.the-variants as ack
 use Rattle.quorum.specs.declared.rows.Vote.the-variants as vote
-use Rattle.raft_log.specs.Words.{putRun, firstFrom}
-use Rattle.raft_log.specs.State.{stateOk, termAt}
-use Rattle.raft_log.specs.Run.{numbered, termsSet}
-use Rattle.raft_log.specs.Append.{withCommitted, outside, decide, matchRun, appendAnswer, appendStore}
+use Rattle.raft_log.specs.Append.{withCommitted}
 use Rattle.raft_log.specs.Commit.{maybeCommit}
 use Rattle.raft_log.specs.Setup.{fresh, setupOk, setupAnswer}
-use Rattle.log_laws.specs.View.{listed, view-of}
 use Rattle.log_laws.proofs.Nonzero.{set-nonzero}
 use Rattle.leader.specs.Leader.{leaderCommit}
-use Rattle.two_ends.specs.Follower.{Follower, held, engine, set-up, follow}
-use Rattle.two_ends.specs.Leader.{whole-list, as-run, cut}
+use Rattle.two_ends.specs.Follower.{Follower, held, engine, set-up}
+use Rattle.two_ends.specs.Leader.{cut}
 use Rattle.two_ends.specs.TwoEnds.{Premises}
+use Rattle.two_ends.proofs.Sanity.{concrete as at-the-ends}
 use Rattle.majority_holds.specs.MajorityHolds.{Accepted, Acknowledged, accepted, own, Honest, HeldByHalves}
 use Rattle.majority_holds.proofs.Main.{acknowledged-holds, may-count}
 
 abbrev the-list : List Entry
-the-list = record { term = 1; body = 7 } ∷ []
+the-list = entry 1 7 ∷ []
 
 -- A follower as set-up makes it, with room for one record; and once it has accepted the record. A leader that has it appended has the same log.
 abbrev empty : Follower
@@ -55,7 +52,7 @@ peers = at-one 1 ∷ at-one 2 ∷ []
 
 -- What it all computes through.
 unfoldable concrete : Unit {0}
-unfolding entry-at putRun firstFrom stateOk termAt numbered termsSet outside decide matchRun appendAnswer appendStore setupOk setupAnswer maybeCommit leaderCommit listed view-of as-run cut engine follow count insert falling kth-largest committed position has distinct halfIndex jointIndex
+unfolding at-the-ends setupOk setupAnswer maybeCommit leaderCommit count insert falling kth-largest committed position has distinct halfIndex jointIndex
 concrete = tt
 
 only-start : (j : ℕ) → j ≤ 0 → Same (held empty) (whole-list the-list) j
@@ -64,7 +61,7 @@ only-start zero h = record { terms = refl; bodies = λ p q. refl }
 only-start (suc j) h = absurd (omega arith)
 
 begins : Premises the-list empty
-unfolding concrete Matching
+unfolding concrete
 begins = record {
   made = set-up 0 0 0 _ _ _ refl;
   matching = λ i here there t j le a b. only-start j (omega arith);

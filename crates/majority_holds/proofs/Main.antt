@@ -5,20 +5,16 @@ use mathlib.Core.Bool.{true, false, and-eq-true-iff}
 use mathlib.Core.List.{List, [], _∷_, map}
 use mathlib.Core.Logic.{_⊎_, inl, inr, ⊎-elim}
 use native.Mathlib.Omega.{arith}
-use native.Mathlib.Nat.{le-trans}
 use lib.ListN.{length, length-map}
 use lib.Dec.{leb}
 use borrow.Author.Tests.{leb-true, not-false}
 use Rattle.units.specs.Units.{wordMax, indexOf}
 use Rattle.units.specs.Refusals.{brokenState, brokenSet, bothChecks}
-use Rattle.units.specs.declared.Index.{Index}
-use Rattle.units.specs.declared.Check.{Check}
 use Rattle.units.specs.declared.Check.the-variants as check
 use Rattle.units.proofs.Never.{never}
 use Rattle.rules.specs.Count.{count}
-use Rattle.rules.specs.Log.{Entry, Agree}
+use Rattle.rules.specs.Log.{Entry, whole-list, Agree}
 use Rattle.rules.proofs.Count.{count-map}
-use Rattle.rules.proofs.Majority.{reached-falls, committed-commits}
 use Rattle.quorum.specs.Limits.{voterLimit}
 use Rattle.quorum.specs.Ids.{distinct}
 use Rattle.quorum.specs.Rows.{rowsCheck}
@@ -26,7 +22,6 @@ use Rattle.quorum.specs.Voters.{votersOf, votersCheck}
 use Rattle.quorum.specs.Half.{halfIndex, joined}
 use Rattle.quorum.specs.Majority.{acksOf, indexUnless, committedIndex, matchIndex}
 use Rattle.quorum.specs.Joint.{configCheck, jointIndex}
-use Rattle.quorum.specs.declared.half.Half.{Half}
 use Rattle.quorum.specs.declared.Committed.the-variants as found
 use Rattle.quorum.specs.declared.majority.Voters.{Voters}
 use Rattle.quorum.specs.declared.joint.JointConfig.{JointConfig}
@@ -34,8 +29,8 @@ use Rattle.quorum.specs.declared.rows.Peer.{Peer}
 use Rattle.quorum.proofs.Checks.{fine-true}
 use Rattle.quorum_laws.specs.JointRule.{Backs}
 use Rattle.quorum_laws.proofs.Checks.{both-fine, config-twelve, with-rows-twelve}
-use Rattle.quorum_laws.proofs.Joint.{joined-free, joined-nobody}
-use Rattle.quorum_laws.proofs.Answers.{JointWhole, NoVoters, index-answer}
+use Rattle.quorum_laws.proofs.Joint.{half-backs, joined-free, joined-nobody}
+use Rattle.quorum_laws.proofs.Answers.{JointWhole, at-exactly-if, NoVoters, index-answer}
 use Rattle.raft_log.specs.State.{broken}
 use Rattle.raft_log.specs.declared.Log.{Log}
 use Rattle.raft_log.specs.declared.Decided.the-variants as decided
@@ -44,10 +39,8 @@ use Rattle.raft_log.proofs.Commits.{no-commit-beyond}
 use Rattle.leader.specs.Leader.{leaderCommit}
 use Rattle.leader.proofs.Backed.{commits-by-the-rule, refuses-broken, refuses-set}
 use Rattle.two_ends.specs.Follower.{Follower, held}
-use Rattle.two_ends.specs.Leader.{whole-list}
 use Rattle.two_ends.specs.TwoEnds.{Theorem as TwoEndsTheorem}
-use Rattle.two_ends.proofs.Agreeing.{agree-down}
-use Rattle.two_ends.proofs.Agreeing.{same-third}
+use Rattle.two_ends.proofs.Agreeing.{agree-down, same-third}
 use Rattle.two_ends.proofs.Main.{two-ends}
 use Rattle.majority_holds.specs.MajorityHolds.{Acknowledged, accepted, own, Honest, HoldsUpTo, HeldByMajority, HeldByHalves, MayCount}
 
@@ -66,17 +59,6 @@ holds-up-to : (xs : List Entry) (g : Follower) (n k : ℕ) → n ≤ k → Agree
 holds-up-to xs g n k le a = agree-down (held g) (whole-list xs) (max n (held g .start)) k (omega arith) (omega (arith, a .here .0)) a
 
 -- ---- one half
-
--- A half backs every number up to its index.
-half-backs : (acks : List ℕ) (n : ℕ) → n ≤ halfIndex acks .index → Backs acks n
-unfolding halfIndex
-half-backs [] n le some = let z : ⊥ = omega arith in absurd z
-half-backs (a ∷ acks) n le some = le-trans (committed-commits (a ∷ acks) some .by-majority) (reached-falls n _ (a ∷ acks) le)
-
--- An index answer that somebody had a say in: nothing is wrong, and the values are the half's.
-index-means : (k : Check) (h : Half) (n : ℕ) → indexUnless k h ≡ found.At (indexOf n) false → (k ≡ check.Fine) × ((h .index ≡ n) × (h .free ≡ false))
-index-means check.Fine h n e = let i : indexOf (h .index) ≡ indexOf n = cc in (refl, (ap (λ (j : Index). j .0) i, cc))
-index-means (check.Refused m) h n e = (cc, (cc, cc))
 
 -- Where not both lists are empty, one is not.
 one-is-not : (xs ys : List ℕ) → ¬ ((xs ≡ []) × (ys ≡ [])) → (0 < length xs) ⊎ (0 < length ys)
@@ -143,7 +125,7 @@ module _ (xs : List Entry) (sites : ℕ → Follower) (peers : List Peer) (hones
     joint-held e =
         let i = acksOf peers (config .incoming) in
         let o = acksOf peers (config .outgoing) in
-        let is = index-means (bothChecks (configCheck config) (rowsCheck peers)) (joined (halfIndex i) (halfIndex o)) n e in
+        let is = at-exactly-if (bothChecks (configCheck config) (rowsCheck peers)) (joined (halfIndex i) (halfIndex o)) n false .0 e in
         let voters : ¬ NoVoters config = λ none. not-both (joined-free i o .1 (ap (map (matchIndex peers)) (none .0), ap (map (matchIndex peers)) (none .1))) (is .1 .1) in
         both-held (is .0) voters (half-backs i n (omega (arith, is .1 .0))) (half-backs o n (omega (arith, is .1 .0)))
 

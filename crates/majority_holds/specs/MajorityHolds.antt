@@ -8,9 +8,8 @@ use mathlib.Core.List.{List}
 use mathlib.Core.Logic.{_⊎_}
 use lib.ListN.{length}
 use Rattle.units.specs.Units.{indexOf}
-use Rattle.rules.specs.Count.{count}
-use Rattle.rules.specs.Majority.{quorum}
-use Rattle.rules.specs.Log.{Entry, last, Holds, Same, Agree}
+use Rattle.rules.specs.Majority.{ByMajority}
+use Rattle.rules.specs.Log.{Entry, whole-list, last, Holds, Same, Agree}
 use Rattle.quorum.specs.Ids.{distinct}
 use Rattle.quorum.specs.Voters.{votersOf}
 use Rattle.quorum.specs.Majority.{committedIndex, matchIndex}
@@ -23,7 +22,7 @@ use Rattle.raft_log.specs.declared.Log.{Log}
 use Rattle.raft_log.specs.declared.Decided.the-variants as decided
 use Rattle.leader.specs.Leader.{leaderCommit}
 use Rattle.two_ends.specs.Follower.{Follower, held, Message, engine, Event, follow}
-use Rattle.two_ends.specs.Leader.{whole-list, CutFrom}
+use Rattle.two_ends.specs.Leader.{CutFrom}
 use Rattle.two_ends.specs.TwoEnds.{Premises, Trace, Accepts}
 
 -- ---- what a site has acknowledged
@@ -60,7 +59,7 @@ HoldsUpTo xs g n = Agree (held g) (whole-list xs) (max n (held g .start))
 pub record HeldByMajority (xs : List Entry) (sites : ℕ → Follower) (voters : List ℕ) (n : ℕ) : Type 0 where
   pub none-twice : distinct voters ≡ true
   pub holder : ℕ → Bool
-  pub enough : quorum (length voters) ≤ count holder voters
+  pub enough : ByMajority holder voters
   pub hold : (id : ℕ) → holder id ≡ true → HoldsUpTo xs (sites id) n
 
 -- So of every half that has voters; and one has.

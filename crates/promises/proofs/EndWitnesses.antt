@@ -9,18 +9,18 @@ use native.Mathlib.Omega.{arith}
 use lib.Dec.{lit<, lit≤}
 use lib.ListN.{getD}
 use Rattle.rules.specs.Count.{count}
-use Rattle.rules.specs.Log.{Same, Matching, Agree, records-after}
+use Rattle.rules.specs.Log.{entry, whole-list, records-after, Same, Matching, Agree}
 use Rattle.rules.proofs.Count.{count-none, count-miss}
 use Rattle.quorum.specs.Ids.{position, has, distinct}
 use Rattle.quorum.specs.Voters.{setOf}
 use Rattle.quorum.specs.Joint.{oneSet}
 use Rattle.raft_log.specs.Settle.{settleAnswer, settleStore}
 use Rattle.two_ends.specs.Follower.{Follower, held, Message, WellFormed, engine, HasRoom, settles, does, arrives, between, follow, Made}
-use Rattle.two_ends.specs.Leader.{whole-list, as-run, cut, CutFrom}
+use Rattle.two_ends.specs.Leader.{as-run, cut, CutFrom}
 use Rattle.two_ends.specs.TwoEnds.{Premises, Possible, Trace, HoldsPrevious, Accepts, Keeps, TwoEnds, Theorem, NeverDiffer}
 use Rattle.two_ends.specs.World.{World, sends, meets, next, May, history, History, AllCut, InTime, TheoremInTime}
 use Rattle.two_ends.specs.CatchUp.{Round, total, sending, AtEach, CaughtUp, CatchUp}
-use Rattle.two_ends.specs.Sanity.{entry, leader, log-with, settled-words, follower, late, third, heartbeat, from-zero, corrected, refuses-all, commits-blindly}
+use Rattle.two_ends.specs.Sanity.{leader, log-with, settled-words, follower, late, third, heartbeat, from-zero, corrected, refuses-all, commits-blindly}
 use Rattle.two_ends.proofs.Carried.{made-sound}
 use Rattle.raft_log.proofs.States.{refuted}
 use Rattle.raft_log.proofs.Appending.{no-done}

@@ -44,7 +44,7 @@ abbrev pub JointWhole : JointConfig → List Peer → Type 0
 JointWhole c peers = bothChecks (configCheck c) (rowsCheck peers) ≡ check.Fine
 
 -- An answer that is no refusal: the check is fine, and the values are the half's, or the vote's.
-at-exactly-if : (k : Check) (h : Half) (n : ℕ) (b : Bool) → (indexUnless k h ≡ answer.At (indexOf n) b) ↔ ((k ≡ check.Fine) × ((h .index ≡ n) × (h .free ≡ b)))
+pub at-exactly-if : (k : Check) (h : Half) (n : ℕ) (b : Bool) → (indexUnless k h ≡ answer.At (indexOf n) b) ↔ ((k ≡ check.Fine) × ((h .index ≡ n) × (h .free ≡ b)))
 at-exactly-if check.Fine h n b = ((λ e. let i : indexOf (h .index) ≡ indexOf n = cc in (refl, (ap (λ (j : Index). j .0) i, (cc)))), (λ e. cc (e .1 .0, e .1 .1)))
 at-exactly-if (check.Refused m) h n b = ((λ e. ((cc), ((cc), (cc)))), (λ e. cc (e .0)))
 

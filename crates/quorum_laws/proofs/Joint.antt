@@ -1,5 +1,5 @@
 -- The smaller of the two halves' indices meets the joint rule, and no other number does: a half backs exactly the numbers up to its own index.
-use Prim.Native.Nat.{ℕ, _≤_, _<_, min}
+use Prim.Native.Nat.{ℕ, _≤_, min}
 use mathlib.Core.Path.{_≡_, refl}
 use mathlib.Core.Bool.{true, and-eq-true-iff}
 use mathlib.Core.List.{List, [], _∷_}
@@ -7,7 +7,7 @@ use mathlib.Core.Logic.{_↔_}
 use native.Mathlib.Omega.{arith}
 use native.Mathlib.Nat.{le-antisymm, le-trans}
 use Rattle.units.specs.Units.{wordMax}
-use Rattle.rules.specs.Majority.{Commits, committed}
+use Rattle.rules.specs.Majority.{committed}
 use Rattle.rules.proofs.Majority.{reached-falls, committed-commits, Each, committed-each}
 use Rattle.quorum.specs.Half.{halfIndex, joined}
 use Rattle.quorum_laws.specs.JointRule.{Backs, JointCommits}
@@ -27,15 +27,17 @@ unfolding halfIndex
 index-fits [] w = omega arith
 index-fits (a ∷ acks) w = committed-each (λ n. n ≤ wordMax) (a ∷ acks) (omega arith) w
 
+-- It backs every number up to its index, ..
+pub half-backs : (acks : List ℕ) (m : ℕ) → m ≤ halfIndex acks .index → Backs acks m
+unfolding halfIndex
+half-backs [] m le some = let z : ⊥ = omega arith in absurd z
+half-backs (a ∷ acks) m le some = le-trans (committed-commits (a ∷ acks) some .by-majority) (reached-falls m _ (a ∷ acks) le)
+
+-- .. and of the numbers of 64 bits no other.
 pub backs-up-to-index : (acks : List ℕ) (m : ℕ) → m ≤ wordMax → (m ≤ halfIndex acks .index) ↔ Backs acks m
 unfolding halfIndex
-backs-up-to-index [] m fits = ((λ h some. absurd (nobody some)), (λ b. fits))
-  where
-    nobody : 0 < 0 → ⊥
-    nobody h = omega arith
-backs-up-to-index (a ∷ acks) m fits =
-    let c : Commits (a ∷ acks) (committed (a ∷ acks)) = committed-commits (a ∷ acks) (omega arith) in
-    ((λ h some. le-trans (c .by-majority) (reached-falls m (committed (a ∷ acks)) (a ∷ acks) h)), (λ b. c .largest m (b (omega arith))))
+backs-up-to-index [] m fits = (half-backs [] m, (λ b. fits))
+backs-up-to-index (a ∷ acks) m fits = (half-backs (a ∷ acks) m, (λ b. committed-commits (a ∷ acks) (omega arith) .largest m (b (omega arith))))
 
 pub free-if-nobody : (acks : List ℕ) → (halfIndex acks .free ≡ true) ↔ (acks ≡ [])
 unfolding halfIndex
@@ -48,8 +50,8 @@ joined-commits xs ys v w =
     let fits : joined (halfIndex xs) (halfIndex ys) .index ≤ wordMax = omega (arith, index-fits xs v) in
     record {
       fits = fits;
-      by-incoming = backs-up-to-index xs _ fits .0 (omega arith);
-      by-outgoing = backs-up-to-index ys _ fits .0 (omega arith);
+      by-incoming = half-backs xs _ (omega arith);
+      by-outgoing = half-backs ys _ (omega arith);
       largest = λ m h b c. omega (arith, backs-up-to-index xs m h .1 b, backs-up-to-index ys m h .1 c);
     }
 

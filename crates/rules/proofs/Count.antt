@@ -3,20 +3,16 @@ use Prim.Native.Nat.{ℕ, suc, _≤_, _<_}
 use mathlib.Core.Path.{_≡_, refl, ap, _∙_}
 use mathlib.Core.Bool.{Bool, true, false}
 use mathlib.Core.List.{List, [], _∷_, map}
-use mathlib.Core.Logic.{_⊎_, inl, inr}
+use mathlib.Core.Logic.{_⊎_, ⊎-swap}
 use native.Mathlib.Omega.{arith}
 use lib.ListN.{length}
-use lib.Dec.{leb}
-use borrow.Author.Tests.{leb-true, leb-false}
+use Rattle.units.proofs.Cond.{both-ends}
+use Rattle.units.proofs.Numbers.{below-or-not}
 use Rattle.rules.specs.Count.{one-more-if, count, Reordered, none, keep, swap, then}
 
--- A test on numbers decides: the two ways to go on.
-le-gt-at : (a b : ℕ) (t : Bool) → leb a b ≡ t → (a ≤ b) ⊎ (b < a)
-le-gt-at a b true e = inl (leb-true a b e)
-le-gt-at a b false e = inr (leb-false a b e)
-
+-- Of two numbers, the first is at most the second, or above it.
 pub le-or-gt : (a b : ℕ) → (a ≤ b) ⊎ (b < a)
-le-or-gt a b = le-gt-at a b (leb a b) refl
+le-or-gt a b = ⊎-swap (below-or-not b a)
 
 pub swap-ones : (a b : Bool) (n : ℕ) → one-more-if a (one-more-if b n) ≡ one-more-if b (one-more-if a n)
 swap-ones true true n = refl
@@ -25,12 +21,10 @@ swap-ones false true n = refl
 swap-ones false false n = refl
 
 pub one-at-most : (b : Bool) (n : ℕ) → one-more-if b n ≤ suc n
-one-at-most true n = omega arith
-one-at-most false n = omega arith
+one-at-most b n = both-ends (λ k. k ≤ suc n) b (omega arith) (omega arith)
 
 pub one-at-least : (b : Bool) (n : ℕ) → n ≤ one-more-if b n
-one-at-least true n = omega arith
-one-at-least false n = omega arith
+one-at-least b n = both-ends (λ k. n ≤ k) b (omega arith) (omega arith)
 
 module _ {A : Type 0} (p : A → Bool) where
   pub count-none : count p [] ≡ 0

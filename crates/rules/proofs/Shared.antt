@@ -1,12 +1,12 @@
 -- Two majorities of one voter set share a voter: what elections and commitment rest on (the paper, 5.2 and 5.4.3).
-use Prim.Native.Nat.{ℕ, suc, _+_, _≤_, _<_}
+use Prim.Native.Nat.{ℕ, suc, _+_, _<_}
 use mathlib.Core.Path.{_≡_, refl}
 use mathlib.Core.Bool.{Bool, true, false}
 use mathlib.Core.List.{List, [], _∷_}
 use native.Mathlib.Omega.{arith}
 use lib.ListN.{length, getD}
 use Rattle.rules.specs.Count.{one-more-if, count}
-use Rattle.rules.specs.Majority.{quorum}
+use Rattle.rules.specs.Majority.{ByMajority}
 
 -- A voter that passes both tests.
 pub record Both {A : Type 0} (p q : A → Bool) (voters : List A) (d : A) : Type 0 where
@@ -34,5 +34,5 @@ module _ {A : Type 0} (p q : A → Bool) (d : A) where
   shared (v ∷ vs) h = shared-at v vs (p v) (q v) refl refl (shared vs) h
 
   -- THE THEOREM
-  pub majorities-share : (voters : List A) → quorum (length voters) ≤ count p voters → quorum (length voters) ≤ count q voters → Both p q voters d
+  pub majorities-share : (voters : List A) → ByMajority p voters → ByMajority q voters → Both p q voters d
   majorities-share voters h g = shared voters (omega arith)

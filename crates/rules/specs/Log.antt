@@ -12,15 +12,23 @@ pub record Entry : Type 0 where
   pub term : ℕ
   pub body : ℕ
 
+-- A record, by its term and its body.
+abbrev pub entry : ℕ → ℕ → Entry
+entry t b = record { term = t; body = b }
+
 -- What is read where there is no record. 01, `term(i)`: "0 outside [start, last]".
 abbrev pub nothing : Entry
-nothing = record { term = 0; body = 0 }
+nothing = entry 0 0
 
 -- 01: "A log has a start (index, term) before its first record". `entries` are the records at start + 1, start + 2, ..
 pub record Log : Type 0 where
   pub start : ℕ
   pub start-term : ℕ
   pub entries : List Entry
+
+-- A list as a log: it starts with (0, 0), which "comes before every list".
+abbrev pub whole-list : List Entry → Log
+whole-list xs = record { start = 0; start-term = 0; entries = xs }
 
 -- The n records of a list after its first k.
 abbrev pub records-after : List Entry → ℕ → ℕ → List Entry
@@ -34,7 +42,7 @@ last l = l .start + length (l .entries)
 unfoldable pub entry-at : Log → ℕ → Entry
 entry-at l i =
     cond (ltb i (l .start)) nothing
-    (getD (record { term = l .start-term; body = 0 } ∷ l .entries) (i - l .start) nothing)
+    (getD (entry (l .start-term) 0 ∷ l .entries) (i - l .start) nothing)
 
 -- 01, `term(i)`: "the record's term; the start's term at start; 0 outside [start, last]".
 abbrev pub term-of : Log → ℕ → ℕ

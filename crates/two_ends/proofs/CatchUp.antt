@@ -7,23 +7,20 @@ use native.Mathlib.Omega.{arith}
 use lib.ListN.{length, getD, drop, length-drop}
 use lib.Seq.{getD-drop, ext-getD}
 use Rattle.units.specs.declared.Index.{Index}
-use Rattle.rules.specs.Log.{Entry, nothing, Log as Abstract, last, Agree}
+use Rattle.rules.specs.Log.{Entry, entry, nothing, Log as Abstract, whole-list, last, Agree}
 use Rattle.rules.specs.Receiver.{with-entries}
 use Rattle.raft_log.specs.declared.Log.{Log}
 use Rattle.raft_log.specs.declared.Appended.{Appended}
 use Rattle.raft_log.specs.declared.Appended.the-variants as appended
-use Rattle.raft_log.specs.Words.{runCount}
-use Rattle.log_laws.specs.View.{runEntry, runEntries}
-use Rattle.log_laws.proofs.Receiving.{raised}
-use Rattle.log_laws.proofs.Views.{length-listed, entry-after}
+use Rattle.log_laws.proofs.Views.{entry-after}
 use Rattle.two_ends.specs.Follower.{Follower, held, committed, Message, last-index, Receiver, engine, HasRoom, Between, does, Event, arrives, between, step, follow}
-use Rattle.two_ends.specs.Leader.{whole-list, cut, CutFrom}
+use Rattle.two_ends.specs.Leader.{cut, CutFrom}
 use Rattle.two_ends.specs.TwoEnds.{Premises, Possible, HoldsPrevious, Accepts}
 use Rattle.two_ends.specs.CatchUp.{Besides, Round, total, next, sending, AtEach, CaughtUp, CatchUp}
 use Rattle.two_ends.proofs.Cuts.{cut-term, cut-last}
 use Rattle.two_ends.proofs.Tests.{engine-answer, done-passed, passed-done, refused-unchanged}
-use Rattle.two_ends.proofs.Carried.{made-sound, between-sound}
-use Rattle.two_ends.proofs.Taking.{Standing, Took, took, accepted-if, then-agree, message-standing, message-keeps}
+use Rattle.two_ends.proofs.Carried.{between-sound}
+use Rattle.two_ends.proofs.Taking.{Standing, premises-standing, named, Took, took, accepted-if, then-agree, message-standing, message-keeps}
 use Rattle.two_ends.proofs.Quiet.{quiet-standing, between-alike}
 
 -- The follower after events, and then more of them.
@@ -38,7 +35,7 @@ all-of xs l g end = ext-getD nothing (l .entries) (drop (l .start) xs) (omega (a
     let i : ℕ = l .start + 1 + k in
     let same = g .same i (omega arith) (omega arith) in
     ap (λ (j : ℕ). getD (l .entries) j nothing) (omega arith) ∙ sym (entry-after l i (omega arith))
-    ∙ ap₂ (λ (t b : ℕ). record { term = t; body = b }) (same .terms) (same .bodies (omega arith) (omega arith))
+    ∙ ap₂ entry (same .terms) (same .bodies (omega arith) (omega arith))
     ∙ entry-after (whole-list xs) i (omega arith) ∙ ap (λ (j : ℕ). getD xs j nothing) (omega arith) ∙ sym (getD-drop (l .start) xs k nothing))
 
 module _ (xs : List Entry) (f : Follower) (p : Premises xs f) (commit : ℕ) where
@@ -62,24 +59,18 @@ module _ (xs : List Entry) (f : Follower) (p : Premises xs f) (commit : ℕ) whe
       t : Took g m after
       t = took g m c k a e
 
-      last-new : m .idx + length (runEntries (m .run)) ≡ last-index m
-      last-new = ap (λ (n : ℕ). m .idx + n) (length-listed (runEntry (m .run)) 0 (runCount (m .run)))
-
-      commits : committed after ≡ max (committed g) (min (m .commit) (last-index m))
-      commits = t .committed-is ∙ raised (committed g) (m .commit) _ ∙ ap (λ (n : ℕ). max (committed g) (min (m .commit) n)) last-new
-
       -- after it, for any index: it is enough that up to there the records are the leader's, and committed as the leader has
       counted : (i : ℕ) → Agree (held after) (whole-list xs) i → max (committed f) (min commit i) ≤ committed after → Now after i
       counted i agrees floor =
           let stands = message-standing xs (p .leader-terms) (p .leader-limit) g (now .0) m sent c k a e in
           let same = t .got .same-start in
           let shorter : last (held f) ≤ length xs → last (held after) ≤ length xs =
-          λ h. ⊎-elim (λ d. omega (arith, d .1, last-new, cut-last sent, sent .inside)) (λ d. omega (arith, d .1 .1, now .1 .shorter h)) (t .got .end) in
-          let ceiling : committed after ≤ max (committed f) (min commit (length xs)) = omega (arith, now .1 .ceiling, commits, cut-last sent, sent .inside) in
+          λ h. ⊎-elim (λ d. omega (arith, d .1, named m, cut-last sent, sent .inside)) (λ d. omega (arith, d .1 .1, now .1 .shorter h)) (t .got .end) in
+          let ceiling : committed after ≤ max (committed f) (min commit (length xs)) = omega (arith, now .1 .ceiling, t .committed-is, cut-last sent, sent .inside) in
           (stands, record { starts = (same .0 ∙ now .1 .starts .0, same .1 ∙ now .1 .starts .1); agrees = agrees; shorter = shorter; floor = floor; ceiling = ceiling })
 
       kept : Now after idx
-      kept = counted idx (message-keeps xs (p .leader-terms) (p .leader-limit) g (now .0) m sent c k a e .keeps idx (now .1 .agrees)) (omega (arith, now .1 .floor, commits))
+      kept = counted idx (message-keeps xs (p .leader-terms) (p .leader-limit) g (now .0) m sent c k a e .keeps idx (now .1 .agrees)) (omega (arith, now .1 .floor, t .committed-is))
 
     -- ---- any message that may come
     message-now : Possible xs m → m .commit ≤ commit → Now after idx
@@ -97,7 +88,7 @@ module _ (xs : List Entry) (f : Follower) (p : Premises xs f) (commit : ℕ) whe
       let e = engine-answer g m ∙ passed-done g m (accepted-if xs (p .leader-terms) (p .leader-limit) g (now .0) m sent previous room) in
       let agrees = then-agree xs (p .leader-terms) (p .leader-limit) g (now .0) m sent _ _ _ e in
       let low : m .commit ≤ commit = omega arith in
-      ((_, _, _, e, refl), counted g (m .idx) now m sent low _ _ _ e (last-index m) agrees (omega (arith, now .1 .floor, commits g (m .idx) now m sent low _ _ _ e)))
+      ((_, _, _, e, refl), counted g (m .idx) now m sent low _ _ _ e (last-index m) agrees (omega (arith, now .1 .floor, took g m _ _ _ e .committed-is)))
 
   -- ---- what else happens
   between-now : (g : Follower) (idx : ℕ) → Now g idx → (b : Between) → Now (does g b) idx
@@ -126,9 +117,7 @@ module _ (xs : List Entry) (f : Follower) (p : Premises xs f) (commit : ℕ) whe
 
   -- at first it has the leader's records up to committed; in the end, up to the list's last
   begin : Now f (committed f)
-  begin =
-      let st : Standing xs f = record { sound = made-sound f (p .made); matching = p .matching; has-committed = p .has-committed } in
-      (st, record { starts = (refl, refl); agrees = p .has-committed; shorter = λ h. h; floor = omega arith; ceiling = omega arith })
+  begin = (premises-standing p, record { starts = (refl, refl); agrees = p .has-committed; shorter = λ h. h; floor = omega arith; ceiling = omega arith })
 
   end : (g : Follower) → Upto (held g) (committed g) (length xs) → CaughtUp xs commit f g
   end g u = record {

@@ -1,23 +1,22 @@
 -- Messages cut from a leader's list: records as a run are well-numbered and read back as the same records; a cut message is well-formed, and stays a cut of what the list grows to.
-use Prim.Native.Nat.{ℕ, zero, suc, _+_, _*_, _%_, _≤_, _<_}
+use Prim.Native.Nat.{ℕ, zero, suc, _+_, _-_, _*_, _%_, _≤_, _<_}
 use mathlib.Core.Path.{_≡_, refl, sym, ap, ap₂, _∙_}
 use mathlib.Core.Bool.{Bool, true, false, not}
 use mathlib.Core.List.{List, [], _∷_, _++_}
 use native.Mathlib.Omega.{arith}
-use native.Mathlib.Nat.{sub-zero}
 use lib.ListN.{length, getD, take, drop, length-append, length-take, length-drop, List·getD-append}
 use lib.Seq.{getD-take, getD-drop, drop-cons, take-append-le, drop-append-le, ext-getD}
-use borrow.Author.Tests.{eq-eqb, ne-eqb, le-leb, le-ltb}
+use borrow.Author.Tests.{eq-eqb, ne-eqb, le-leb}
 use Rattle.units.specs.Units.{indexLimit}
-use Rattle.rules.specs.Log.{Entry, nothing, entry-at, term-of, records-after}
+use Rattle.rules.specs.Log.{Entry, entry, nothing, whole-list, records-after, entry-at, term-of}
 use Rattle.raft_log.specs.Words.{runWords, runCount, runIndex, runTerm, none}
 use Rattle.raft_log.specs.Run.{misplaced, zeroAt, numbered, termsSet}
 use Rattle.raft_log.proofs.Searching.{found, found-is, same-not}
 use Rattle.log_laws.specs.View.{runEntry, runEntries}
 use Rattle.log_laws.specs.Keep.{NonzeroTerms}
-use Rattle.log_laws.proofs.Views.{length-listed, at-listed}
+use Rattle.log_laws.proofs.Views.{length-listed, at-listed, entry-after}
 use Rattle.two_ends.specs.Follower.{Message, last-index, WellFormed}
-use Rattle.two_ends.specs.Leader.{whole-list, as-run, cut, CutFrom}
+use Rattle.two_ends.specs.Leader.{as-run, cut, CutFrom}
 
 -- ---- records as a run
 
@@ -52,7 +51,7 @@ module _ (i : ℕ) (es : List Entry) (k : ℕ) (h : k < length es) where
   -- record k of the run is record k of the list
   pub as-run-entry : runEntry (as-run i es) k ≡ getD es k nothing
   unfolding as-run
-  as-run-entry = ap₂ (λ (t b : ℕ). record { term = t; body = b }) (word-of 1) (word-of 2)
+  as-run-entry = ap₂ entry (word-of 1) (word-of 2)
 
 -- the run reads back as the records that it was made of
 pub as-run-entries : (i : ℕ) (es : List Entry) → runEntries (as-run i es) ≡ es
@@ -87,11 +86,6 @@ as-run-terms i es h =
 
 -- ---- the records after an index of the list
 
--- the list's record at i + 1 is the one at place i
-entry-after : (xs : List Entry) (i : ℕ) → entry-at (whole-list xs) (suc i) ≡ getD xs i nothing
-unfolding entry-at
-entry-after xs i = simp (le-ltb (suc i) 0 (omega arith), sub-zero)
-
 -- there are n of them where the list reaches so far
 pub records-length : (xs : List Entry) (idx n : ℕ) → idx + n ≤ length xs → length (records-after xs idx n) ≡ n
 records-length xs idx n h = length-take n (drop idx xs) ∙ omega (arith, length-drop idx xs)
@@ -99,7 +93,7 @@ records-length xs idx n h = length-take n (drop idx xs) ∙ omega (arith, length
 -- the k-th is the list's record at idx + 1 + k
 pub records-at : (xs : List Entry) (idx n k : ℕ) → idx + n ≤ length xs → k < n → getD (records-after xs idx n) k nothing ≡ entry-at (whole-list xs) (idx + 1 + k)
 records-at xs idx n k h r =
-    getD-take n (drop idx xs) k nothing r ∙ getD-drop idx xs k nothing ∙ sym (entry-after xs (idx + k)) ∙ ap (entry-at (whole-list xs)) (omega arith)
+    getD-take n (drop idx xs) k nothing r ∙ getD-drop idx xs k nothing ∙ ap (λ (i : ℕ). getD xs i nothing) (omega arith) ∙ sym (entry-after (whole-list xs) (idx + 1 + k) (omega arith))
 
 -- ---- a message cut from the list
 
@@ -148,7 +142,8 @@ cut-well-formed {xs} {m} set limit c = (
 entry-grown : (xs ys : List Entry) (i : ℕ) → i ≤ length xs → entry-at (whole-list (xs ++ ys)) i ≡ entry-at (whole-list xs) i
 unfolding entry-at
 entry-grown xs ys zero h = refl
-entry-grown xs ys (suc i) h = entry-after (xs ++ ys) i ∙ List·getD-append xs ys nothing i (omega arith) ∙ sym (entry-after xs i)
+entry-grown xs ys (suc i) h =
+    entry-after (whole-list (xs ++ ys)) (suc i) (omega arith) ∙ List·getD-append xs ys nothing (suc i - 0 - 1) (omega arith) ∙ sym (entry-after (whole-list xs) (suc i) (omega arith))
 
 -- so the same cut of either list is the same message
 same-cut : (xs ys : List Entry) (idx n commit : ℕ) → idx + n ≤ length xs → cut (xs ++ ys) idx n commit ≡ cut xs idx n commit

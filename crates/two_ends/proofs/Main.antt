@@ -9,20 +9,20 @@ use lib.ListN.{length}
 use Rattle.units.specs.Units.{indexLimit, indexOf}
 use Rattle.units.specs.Refusals.{misnumberedRun, zeroTerm, cutsCommitted}
 use Rattle.units.specs.declared.Index.{Index}
-use Rattle.rules.specs.Log.{Entry, Matching, Agree}
+use Rattle.rules.specs.Log.{Entry, whole-list, Agree}
 use Rattle.raft_log.specs.declared.Appended.{Appended}
 use Rattle.raft_log.specs.declared.Appended.the-variants as appended
 use Rattle.raft_log.specs.State.{broken}
 use Rattle.raft_log.proofs.States.{good-ok, not-both}
 use Rattle.log_laws.specs.Keep.{NonzeroTerms}
 use Rattle.two_ends.specs.Follower.{Follower, held, Message, last-index, WellFormed, Receiver, answer-to, engine, HasRoom, Between, does, Event, arrives, between, follow}
-use Rattle.two_ends.specs.Leader.{whole-list, CutFrom}
+use Rattle.two_ends.specs.Leader.{CutFrom}
 use Rattle.two_ends.specs.TwoEnds.{Possible, Trace, HoldsPrevious, Accepts, OfMessage, Keeps, TwoEnds, Theorem, NeverDiffer}
 use Rattle.two_ends.proofs.Agreeing.{same-third}
 use Rattle.two_ends.proofs.Cuts.{cut-well-formed}
 use Rattle.two_ends.proofs.Tests.{engine-answer, done-passed, passed-done, six-cuts, one-broken, malformed-refused, refused-unchanged}
-use Rattle.two_ends.proofs.Carried.{made-sound, between-sound}
-use Rattle.two_ends.proofs.Taking.{Standing, keeps-refl, keeps-trans, accepted-if, tests-hold, spared, held-before, then-agree, message-standing, message-keeps}
+use Rattle.two_ends.proofs.Carried.{between-sound}
+use Rattle.two_ends.proofs.Taking.{Standing, premises-standing, keeps-refl, keeps-trans, accepted-if, tests-hold, spared, held-before, then-agree, message-standing, message-keeps}
 use Rattle.two_ends.proofs.Quiet.{quiet-standing, quiet-keeps, between-alike}
 
 module _ (xs : List Entry) (leader-terms : NonzeroTerms (whole-list xs)) (leader-limit : length xs ≤ indexLimit) where
@@ -135,8 +135,8 @@ module _ (xs : List Entry) (leader-terms : NonzeroTerms (whole-list xs)) (leader
 
 -- THE THEOREM
 pub two-ends : Theorem engine
-unfolding Theorem Matching
-two-ends xs f p = promise xs (p .leader-terms) (p .leader-limit) f (record { sound = made-sound f (p .made); matching = p .matching; has-committed = p .has-committed })
+unfolding Theorem
+two-ends xs f p = promise xs (p .leader-terms) (p .leader-limit) f (premises-standing p)
 
 -- any receiver that keeps the promise keeps two followers of one leader from differing
 pub never-differ : (rcv : Receiver) → Theorem rcv → NeverDiffer rcv

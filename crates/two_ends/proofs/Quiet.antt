@@ -1,26 +1,20 @@
 -- What the follower does between messages leaves its records and committed as they were: so what stands between the two ends stands, and nothing is lost.
-use Prim.Native.Nat.{ℕ, min}
+use Prim.Native.Nat.{ℕ}
 use mathlib.Core.Path.{_≡_, refl, sym, ap, subst}
-use mathlib.Core.Bool.{_||_}
 use mathlib.Core.List.{List}
 use native.Mathlib.Omega.{arith}
-use lib.Dec.{eqb, ltb}
-use Rattle.units.specs.declared.Index.{Index}
-use Rattle.units.proofs.Cond.{both-ends}
-use Rattle.rules.specs.Log.{Entry, Log as Abstract, entry-at, Matching, Agree}
+use Rattle.rules.specs.Log.{Entry, Log as Abstract, whole-list, entry-at, Matching, Agree}
 use Rattle.raft_log.specs.declared.Log.{Log}
 use Rattle.raft_log.specs.declared.Changed.{Changed}
 use Rattle.raft_log.specs.declared.Changed.the-variants as changed
-use Rattle.raft_log.specs.declared.Decided.{Decided}
-use Rattle.raft_log.specs.State.{broken}
-use Rattle.raft_log.specs.Commit.{mayPersist, appliedTo, maybePersist}
+use Rattle.raft_log.specs.Commit.{appliedTo, maybePersist}
 use Rattle.raft_log.specs.Settle.{settleAnswer, settleStore}
 use Rattle.raft_log.proofs.Settling.{settle-log}
 use Rattle.log_laws.specs.View.{view-of}
 use Rattle.log_laws.specs.Keep.{AfterChanged, AfterDecided}
 use Rattle.log_laws.proofs.AfterCalls.{settled-view}
+use Rattle.log_laws.proofs.Unmoved.{after-applied, after-persisted}
 use Rattle.two_ends.specs.Follower.{Follower, held, committed, Between, settles, persists, applies, reads, does}
-use Rattle.two_ends.specs.Leader.{whole-list}
 use Rattle.two_ends.specs.TwoEnds.{Keeps}
 use Rattle.two_ends.proofs.Carried.{Sound, changed-carries, decided-carries, settled-carries}
 use Rattle.two_ends.proofs.Taking.{Standing}
@@ -44,38 +38,30 @@ module _ (xs : List Entry) (f g : Follower) (same : held g ≡ held f) (level : 
 
 -- A log over its stores has the records of l, and its committed.
 abbrev Alike : Log → List ℕ → List ℕ → Log → List ℕ → List ℕ → Type 0
-Alike l settled pending a settled′ pending′ = (view-of a settled′ pending′ ≡ view-of l settled pending) × (a .committed ≡ l .committed)
+Alike l settled pending a settled′ pending′ = (view-of a settled′ pending′ ≡ view-of l settled pending) × (a .committed .0 ≡ l .committed .0)
 
 module _ (l : Log) (settled pending : List ℕ) where
   persisted-alike : (i t : ℕ) → AfterDecided (Alike l settled pending) (maybePersist l settled pending i t) settled pending
-  unfolding maybePersist view-of
-  persisted-alike i t =
-      let P : Decided → Type 0 = λ x. AfterDecided (Alike l settled pending) x settled pending in
-      both-ends P (broken l settled pending) tt (both-ends P (mayPersist l settled i t) (refl, refl) tt)
+  unfolding view-of
+  persisted-alike i t = after-persisted (Alike l settled pending) l settled pending i t (refl, refl)
 
   applied-alike : (i : ℕ) → AfterChanged (Alike l settled pending) (appliedTo l settled pending i) settled pending
-  unfolding appliedTo view-of
-  applied-alike i =
-      let P : Changed → Type 0 = λ x. AfterChanged (Alike l settled pending) x settled pending in
-      both-ends P (broken l settled pending) tt
-      (both-ends P (eqb i 0) (refl, refl) (both-ends P (ltb (min (l .committed .0) (l .persisted .0)) i || ltb i (l .applied .0)) tt (refl, refl)))
+  unfolding view-of
+  applied-alike i = after-applied (Alike l settled pending) l settled pending i (refl, refl) (refl, refl)
 
   settled-alike : (i t : ℕ) → AfterChanged (Alike l settled pending) (settleAnswer l settled pending i t) (settleStore (settleAnswer l settled pending i t) l settled pending) pending
   settled-alike i t = by-answer (settleAnswer l settled pending i t) refl
     where
       by-answer : (a : Changed) → settleAnswer l settled pending i t ≡ a → AfterChanged (Alike l settled pending) a (settleStore a l settled pending) pending
-      by-answer (changed.Now after) e = (settled-view l settled pending i t after e, ap (λ (a : Log). a .committed) (sym (settle-log l settled pending i t e)))
+      by-answer (changed.Now after) e = (settled-view l settled pending i t after e, ap (λ (a : Log). a .committed .0) (sym (settle-log l settled pending i t e)))
       by-answer (changed.Refused n) e = tt
 
 pub between-alike : (f : Follower) (b : Between) → (held (does f b) ≡ held f) × (committed (does f b) ≡ committed f)
 unfolding does
 between-alike f (settles i t) =
-    let r = settled-carries (Alike (f .log) (f .settled) (f .pending)) (f .log) (f .settled) (f .pending) (refl, refl) (settleAnswer (f .log) (f .settled) (f .pending) i t) (settled-alike (f .log) (f .settled) (f .pending) i t) in
-    (r .0, ap (λ (x : Index). x .0) (r .1))
+    settled-carries (Alike (f .log) (f .settled) (f .pending)) (f .log) (f .settled) (f .pending) (refl, refl) (settleAnswer (f .log) (f .settled) (f .pending) i t) (settled-alike (f .log) (f .settled) (f .pending) i t)
 between-alike f (persists i t) =
-    let r = decided-carries (Alike (f .log) (f .settled) (f .pending)) (f .log) (f .settled) (f .pending) (refl, refl) (maybePersist (f .log) (f .settled) (f .pending) i t) (persisted-alike (f .log) (f .settled) (f .pending) i t) in
-    (r .0, ap (λ (x : Index). x .0) (r .1))
+    decided-carries (Alike (f .log) (f .settled) (f .pending)) (f .log) (f .settled) (f .pending) (refl, refl) (maybePersist (f .log) (f .settled) (f .pending) i t) (persisted-alike (f .log) (f .settled) (f .pending) i t)
 between-alike f (applies i) =
-    let r = changed-carries (Alike (f .log) (f .settled) (f .pending)) (f .log) (f .settled) (f .pending) (refl, refl) (appliedTo (f .log) (f .settled) (f .pending) i) (applied-alike (f .log) (f .settled) (f .pending) i) in
-    (r .0, ap (λ (x : Index). x .0) (r .1))
+    changed-carries (Alike (f .log) (f .settled) (f .pending)) (f .log) (f .settled) (f .pending) (refl, refl) (appliedTo (f .log) (f .settled) (f .pending) i) (applied-alike (f .log) (f .settled) (f .pending) i)
 between-alike f reads = (refl, refl)

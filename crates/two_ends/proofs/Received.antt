@@ -2,16 +2,16 @@
 use Prim.Native.Nat.{ℕ, suc, _+_, _-_, _≤_, _<_}
 use mathlib.Core.Path.{_≡_, refl, sym, ap, subst, _∙_}
 use mathlib.Core.Bool.{Bool, true, false, not, cond, _&&_}
-use mathlib.Core.List.{List, _∷_, _++_}
+use mathlib.Core.List.{List, _∷_}
 use mathlib.Core.Logic.{_⊎_, ⊎-elim, inl, inr}
 use native.Mathlib.Omega.{arith}
 use borrow.Author.Tests.{lt-ltb, le-ltb, le-leb, leb-true, eqb-true, eqb-false, not-true, not-false}
 use lib.Dec.{ltb, leb, eqb}
 use lib.ListN.{length, getD, take, drop, length-append, length-drop, List·getD-append}
-use lib.Seq.{length-take-le, take-all, getD-take, getD-drop, getD-append-add}
-use Rattle.rules.specs.Log.{Entry, nothing, Log, last, entry-at, term-of}
-use Rattle.rules.specs.Receiver.{contains, conflicts, with-entries, delete-from, step-3, step-4}
-use Rattle.rules.proofs.Receiver.{conflict-at, step-3-keeps, step-3-deletes}
+use lib.Seq.{getD-take, getD-drop, getD-append-add}
+use Rattle.rules.specs.Log.{Entry, entry, nothing, Log, last, entry-at, term-of}
+use Rattle.rules.specs.Receiver.{contains, conflicts, delete-from, step-3, step-4}
+use Rattle.rules.proofs.Receiver.{contains-holds, conflict-at, step-3-keeps, step-3-deletes, delete-none, cut-on, cut-length, steps}
 use Rattle.raft_log.specs.Words.{firstFrom}
 use Rattle.raft_log.proofs.States.{split}
 use Rattle.raft_log.proofs.Searching.{found, below-or-not}
@@ -31,16 +31,10 @@ pub record Received (l : Log) (idx : ℕ) (es : List Entry) (after : Log) : Type
 
 -- ---- a log cut before an index, and the records that follow the cut
 
-abbrev cut-on : Log → ℕ → List Entry → Log
-cut-on l from es = with-entries l (delete-from l from .entries ++ es)
-
 module _ (l : Log) (from : ℕ) (low : l .start < from) (high : from ≤ last l + 1) where
-  cut-length : length (delete-from l from .entries) ≡ from - l .start - 1
-  cut-length = length-take-le (from - l .start - 1) (l .entries) (omega arith)
-
   -- the records with the start before them: all, and those that stay
   abbrev whole : List Entry
-  whole = record { term = l .start-term; body = 0 } ∷ l .entries
+  whole = entry (l .start-term) 0 ∷ l .entries
 
   abbrev kept : List Entry
   kept = take (suc (from - l .start - 1)) whole
@@ -48,18 +42,18 @@ module _ (l : Log) (from : ℕ) (low : l .start < from) (high : from ≤ last l 
   module _ (es : List Entry) where
     -- its last index, and what stands before the cut and from it on
     last-cut : last (cut-on l from es) + 1 ≡ from + length es
-    last-cut = omega (arith, length-append (delete-from l from .entries) es, cut-length)
+    last-cut = omega (arith, length-append (delete-from l from .entries) es, cut-length l from low high)
 
     before-cut : (j : ℕ) → j < from → entry-at (cut-on l from es) j ≡ entry-at l j
     unfolding entry-at
     before-cut j h =
         ap (cond (ltb j (l .start)) nothing)
-        (List·getD-append kept es nothing (j - l .start) (omega (arith, cut-length)) ∙ getD-take (suc (from - l .start - 1)) whole (j - l .start) nothing (omega arith))
+        (List·getD-append kept es nothing (j - l .start) (omega (arith, cut-length l from low high)) ∙ getD-take (suc (from - l .start - 1)) whole (j - l .start) nothing (omega arith))
 
     from-cut : (j : ℕ) → entry-at (cut-on l from es) (from + j) ≡ getD es j nothing
     unfolding entry-at
     from-cut j =
-        let e : from + j - l .start ≡ length kept + j = omega (arith, cut-length) in
+        let e : from + j - l .start ≡ length kept + j = omega (arith, cut-length l from low high) in
         rw (le-ltb (from + j) (l .start) (omega arith), e) (getD-append-add kept es j nothing)
 
 -- ---- what a conflict says
@@ -90,13 +84,6 @@ module _ (l : Log) (idx : ℕ) (es : List Entry) (low : l .start ≤ idx) (high 
     abbrev rest : List Entry
     rest = drop (from - (idx + 1)) es
 
-    -- step 4 goes on with the message's records from there
-    steps : step-3 l (idx + 1) es ≡ delete-from l from → result ≡ cut-on l from rest
-    unfolding step-4
-    steps s =
-        let e : last (delete-from l from) - idx ≡ from - (idx + 1) = omega (arith, cut-length l from (omega arith) reach) in
-        ap (λ (d : Log). step-4 d idx es) s ∙ ap (λ (x : ℕ). cut-on l from (drop x es)) e
-
     new-there : (k : ℕ) → from ≤ idx + 1 + k → entry-at (cut-on l from rest) (idx + 1 + k) ≡ getD es k nothing
     new-there k h =
         let j : ℕ = idx + 1 + k - from in
@@ -110,7 +97,7 @@ module _ (l : Log) (idx : ℕ) (es : List Entry) (low : l .start ≤ idx) (high 
     made s passed hit past =
         let top = last-cut l from (omega arith) reach rest in
         let long = length-drop (from - (idx + 1)) es in
-        subst (Received l idx es) (sym (steps s)) (record {
+        subst (Received l idx es) (sym (steps l from (omega arith) reach idx es low above s)) (record {
           from = from;
           above = above;
           reach = reach;
@@ -125,8 +112,7 @@ module _ (l : Log) (idx : ℕ) (es : List Entry) (low : l .start ≤ idx) (high 
   -- no new entry conflicts
   all-alike : ((k : ℕ) → k < length es → hits k ≡ false) → Received l idx es result
   all-alike none =
-      let same : delete-from l (last l + 1) ≡ l = ap (with-entries l) (take-all (last l + 1 - l .start - 1) (l .entries) (omega arith)) in
-      made (last l + 1) (omega arith) (omega arith) (step-3-keeps l (idx + 1) es none ∙ sym same) (λ k a b. none k a) (λ k a b. absurd (omega arith)) (λ a. refl)
+      made (last l + 1) (omega arith) (omega arith) (step-3-keeps l (idx + 1) es none ∙ sym (delete-none l)) (λ k a b. none k a) (λ k a b. absurd (omega arith)) (λ a. refl)
 
   -- the new entry r is the first that does
   first-differs : (r : ℕ) → r < length es → ((k : ℕ) → k < r → hits k ≡ false) → hits r ≡ true → Received l idx es result
@@ -136,11 +122,8 @@ module _ (l : Log) (idx : ℕ) (es : List Entry) (low : l .start ≤ idx) (high 
 
 -- STEPS 3 AND 4, by the search for the first new entry that conflicts.
 pub received : (l : Log) (idx term : ℕ) (es : List Entry) → contains l idx term ≡ true → Received l idx es (step-4 (step-3 l (idx + 1) es) idx es)
-unfolding contains
 received l idx term es there =
-    let inside = split (leb (l .start) idx) (leb idx (last l)) (split (leb (l .start) idx && leb idx (last l)) (eqb (term-of l idx) term) there .0) in
-    let low = leb-true _ _ (inside .0) in
-    let high = leb-true _ _ (inside .1) in
+    let (low, high) = contains-holds l idx term .0 there .0 in
     let r : ℕ = firstFrom (conflict-at l (idx + 1) es) 0 (length es) in
     let first = found (conflict-at l (idx + 1) es) 0 (length es) in
     ⊎-elim

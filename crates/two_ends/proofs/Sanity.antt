@@ -8,7 +8,7 @@ use lib.Dec.{lit<, lit≤}
 use lib.ListN.{take}
 use Rattle.units.specs.Units.{indexOf}
 use Rattle.units.specs.Refusals.{outsideLog}
-use Rattle.rules.specs.Log.{Log, last, entry-at, term-of, Same, Matching, Agree}
+use Rattle.rules.specs.Log.{Log, whole-list, last, entry-at, term-of, Same, Matching, Agree}
 use Rattle.raft_log.specs.declared.Appended.the-variants.{Done, Refused}
 use Rattle.raft_log.specs.Words.{putRun, firstFrom}
 use Rattle.raft_log.specs.State.{stateOk, termAt}
@@ -21,7 +21,7 @@ use Rattle.raft_log.proofs.Searching.{below-or-not}
 use Rattle.log_laws.specs.View.{listed, view-of}
 use Rattle.log_laws.specs.Keep.{NonzeroTerms}
 use Rattle.two_ends.specs.Follower.{Follower, held, Message, engine, settles, persists, applies, does, follow, Made, set-up, by-maybe-append, by-between}
-use Rattle.two_ends.specs.Leader.{whole-list, as-run, cut, CutFrom}
+use Rattle.two_ends.specs.Leader.{as-run, cut, CutFrom}
 use Rattle.two_ends.specs.TwoEnds.{Premises}
 use Rattle.two_ends.specs.Sanity.{leader, follower, late, third, from-zero, corrected}
 use Rattle.two_ends.proofs.Agreeing.{agree-down}

@@ -1,17 +1,19 @@
 -- A message of the leader's at the follower: when it is accepted, and that what stands between the two ends stands after it, and what the follower had of the leader's it keeps.
 use Prim.Native.Nat.{ℕ, _+_, _≤_, _<_, min, max}
 use mathlib.Core.Path.{_≡_, refl, sym, ap, ap₂, subst, _∙_}
-use mathlib.Core.Bool.{Bool, true, false, not, _||_, cond}
+use mathlib.Core.Bool.{Bool, true, false, not, _||_}
 use mathlib.Core.List.{List}
-use mathlib.Core.Logic.{_⊎_, inl, inr, ⊎-elim}
+use mathlib.Core.Logic.{⊎-elim}
 use native.Mathlib.Omega.{arith}
-use borrow.Author.Tests.{ltb-true, leb-true, eqb-true, le-leb, eq-eqb}
-use lib.Dec.{ltb}
+use borrow.Author.Tests.{ltb-true, leb-true}
 use lib.ListN.{length, getD}
 use Rattle.units.specs.Units.{indexLimit}
 use Rattle.units.specs.declared.Index.{Index}
-use Rattle.rules.specs.Log.{Entry, nothing, Log as Abstract, last, entry-at, term-of, Matching, Agree}
+use Rattle.units.proofs.Cond.{taken as first-end}
+use Rattle.units.proofs.Never.{never}
+use Rattle.rules.specs.Log.{Entry, nothing, Log as Abstract, whole-list, last, entry-at, term-of, Matching, Agree}
 use Rattle.rules.specs.Receiver.{reply-false, success, contains, step-5, receiver}
+use Rattle.rules.proofs.Receiver.{contains-holds, raised}
 use Rattle.raft_log.specs.declared.Log.{Log}
 use Rattle.raft_log.specs.declared.Appended.{Appended}
 use Rattle.raft_log.specs.declared.Appended.the-variants as appended
@@ -22,22 +24,27 @@ use Rattle.raft_log.proofs.Searching.{below-or-not, found, same-not}
 use Rattle.raft_log.proofs.States.{split, refuted, not-both, neither, good-ok}
 use Rattle.log_laws.specs.View.{runEntry, runEntries}
 use Rattle.log_laws.specs.Keep.{NonzeroTerms}
-use Rattle.log_laws.proofs.Views.{view-term, at-listed}
+use Rattle.log_laws.proofs.Views.{view-term, length-listed, at-listed}
 use Rattle.log_laws.proofs.Receiving.{taken, step-2-is}
 use Rattle.two_ends.specs.Follower.{Follower, held, committed, Message, last-index, outcome-of, answer-to, engine, alike, HasRoom}
-use Rattle.two_ends.specs.Leader.{whole-list, CutFrom}
-use Rattle.two_ends.specs.TwoEnds.{HoldsPrevious, Keeps}
+use Rattle.two_ends.specs.Leader.{CutFrom}
+use Rattle.two_ends.specs.TwoEnds.{Premises, HoldsPrevious, Keeps}
 use Rattle.two_ends.proofs.Received.{Received, received}
 use Rattle.two_ends.proofs.Agreeing.{agree-down, new-agree, agree-below, keep-agree, keep-matching}
-use Rattle.two_ends.proofs.Cuts.{records-length, records-at, cut-term, cut-count, cut-entries, cut-last, cut-well-formed}
+use Rattle.two_ends.proofs.Cuts.{records-length, records-at, cut-term, cut-count, cut-entries, cut-well-formed}
 use Rattle.two_ends.proofs.Tests.{Passed}
-use Rattle.two_ends.proofs.Carried.{Sound, received-sound}
+use Rattle.two_ends.proofs.Carried.{Sound, received-sound, made-sound}
 
 -- What stands between the two ends at every moment.
 pub record Standing (xs : List Entry) (f : Follower) : Type 0 where
   pub sound : Sound f
   pub matching : Matching (held f) (whole-list xs)
   pub has-committed : Agree (held f) (whole-list xs) (committed f)
+
+-- What is granted at the start stands then.
+pub premises-standing : {xs : List Entry} {f : Follower} → Premises xs f → Standing xs f
+unfolding Matching
+premises-standing {xs} {f} p = record { sound = made-sound f (p .made); matching = p .matching; has-committed = p .has-committed }
 
 pub keeps-refl : (xs : List Entry) (f : Follower) → Keeps xs f f
 keeps-refl xs f = record { rises = omega arith; kept = λ i s h. refl; keeps = λ k g. g; same-start = (refl, refl) }
@@ -52,9 +59,12 @@ keeps-trans xs f g h a b = record {
 
 -- ---- a message that is taken in: the paper's steps
 
-success-is : (b : Bool) (d e : Abstract) (i j : ℕ) → cond b (success d i) reply-false ≡ success e j → (b ≡ true) × ((d ≡ e) × (i ≡ j))
-success-is true d e i j h = (refl, (cc, cc))
-success-is false d e i j h = (cc, (cc, cc))
+success-is : {d e : Abstract} {i j : ℕ} → success d i ≡ success e j → (d ≡ e) × (i ≡ j)
+success-is h = (cc, cc)
+
+-- the message's last index is that of its last record
+pub named : (m : Message) → last-index m ≡ m .idx + length (runEntries (m .run))
+named m = ap (λ (n : ℕ). m .idx + n) (sym (length-listed (runEntry (m .run)) 0 (runCount (m .run))))
 
 module _ (f : Follower) (m : Message) where
   abbrev es : List Entry
@@ -63,31 +73,25 @@ module _ (f : Follower) (m : Message) where
   pub record Took (g : Follower) : Type 0 where
     pub contained : contains (held f) (m .idx) (m .term) ≡ true
     pub got : Received (held f) (m .idx) es (held g)
-    pub committed-is : committed g ≡ max (committed f) (step-5 (committed f) (m .commit) (m .idx + length es))
+    pub committed-is : committed g ≡ max (committed f) (min (m .commit) (last-index m))
 
   took-done : (c k : Index) (a : Log) → answer-to f m ≡ appended.Done c k a → Took (outcome-of f m (appended.Done c k a) .follower)
   unfolding receiver appendAnswer matchRun
   took-done c k a e =
       let t = taken (f .log) (f .settled) (f .pending) (m .idx) (m .term) (m .commit) (m .run) c k a e in
-      let s = success-is (contains (held f) (m .idx) (m .term)) _ _ _ _ (t .steps) in
+      let s = first-end (contains (held f) (m .idx) (m .term)) (λ h. never cc) (t .steps) in
+      let is = success-is (s .1) in
       record {
         contained = s .0;
-        got = subst (Received (held f) (m .idx) es) (s .1 .0) (received (held f) (m .idx) (m .term) es (s .0));
-        committed-is = t .committed ∙ ap (λ (x : ℕ). max (committed f) x) (sym (s .1 .1));
+        got = subst (Received (held f) (m .idx) es) (is .0) (received (held f) (m .idx) (m .term) es (s .0));
+        committed-is =
+            t .committed ∙ ap (λ (x : ℕ). max (committed f) x) (sym (is .1))
+            ∙ raised (committed f) (m .commit) _ ∙ ap (λ (x : ℕ). max (committed f) (min (m .commit) x)) (sym (named m));
       }
 
   pub took : (c k : Index) (a : Log) → engine f m .answer ≡ appended.Done c k a → Took (engine f m .follower)
   unfolding engine
   took c k a e = subst (λ (x : Appended). Took (outcome-of f m x .follower)) (sym e) (took-done c k a e)
-
--- step 5 sets no index above the larger of commitIndex and the last new entry's
-step-5-below : (c lc n : ℕ) → (step-5 c lc n ≤ c) ⊎ (step-5 c lc n ≤ n)
-unfolding step-5
-step-5-below c lc n = by-test (ltb c lc)
-  where
-    by-test : (b : Bool) → (cond b (min lc n) c ≤ c) ⊎ (cond b (min lc n) c ≤ n)
-    by-test true = inr (omega arith)
-    by-test false = inl (omega arith)
 
 -- ---- a message of the leader's
 module _ (xs : List Entry) (leader-terms : NonzeroTerms (whole-list xs)) (leader-limit : length xs ≤ indexLimit) (f : Follower) (st : Standing xs f) (m : Message) (cut : CutFrom xs m) where
@@ -109,21 +113,6 @@ module _ (xs : List Entry) (leader-terms : NonzeroTerms (whole-list xs)) (leader
   new-at : (k : ℕ) → k < length new → getD new k nothing ≡ entry-at leader (m .idx + 1 + k)
   new-at k h = ap (λ (e : List Entry). getD e k nothing) (cut-entries cut) ∙ records-at xs (m .idx) (cut .count) k (cut .inside) (omega (arith, new-length))
 
-  named : last-index m ≡ m .idx + length new
-  named = cut-last cut ∙ ap (λ (x : ℕ). m .idx + x) (sym new-length)
-
-  -- the previous record is held with that term: step 2's test
-  contains-holds : contains (held f) (m .idx) (m .term) ≡ true → HoldsPrevious f m
-  unfolding contains
-  contains-holds e =
-      let a = split _ _ e in
-      let b = split _ _ (a .0) in
-      ((leb-true _ _ (b .0), leb-true _ _ (b .1)), eqb-true _ _ (a .1))
-
-  holds-contains : HoldsPrevious f m → contains (held f) (m .idx) (m .term) ≡ true
-  unfolding contains
-  holds-contains h = simp (le-leb _ _ (h .0 .0), le-leb _ _ (h .0 .1), eq-eqb _ _ (h .1))
-
   -- a conflict is above committed, since up to there the follower has the leader's records
   pub spared : HoldsPrevious f m → cuts (f .log) (m .idx) (runCount (m .run)) (alike f m) ≡ false
   spared h = refuted _ (λ e.
@@ -141,11 +130,11 @@ module _ (xs : List Entry) (leader-terms : NonzeroTerms (whole-list xs)) (leader
 
   -- tests 4 and 5 are step 2's
   pub tests-hold : outside (f .log) (m .idx) (m .term) ≡ false → mismatched (f .log) (f .settled) (f .pending) (m .idx) (m .term) ≡ false → HoldsPrevious f m
-  tests-hold a b = contains-holds (step-2-is (f .log) (f .settled) (f .pending) good (m .idx) (m .term) ∙ ap₂ (λ (x y : Bool). not (x || y)) a b)
+  tests-hold a b = contains-holds (held f) (m .idx) (m .term) .0 (step-2-is (f .log) (f .settled) (f .pending) good (m .idx) (m .term) ∙ ap₂ (λ (x y : Bool). not (x || y)) a b)
 
   pub accepted-if : HoldsPrevious f m → HasRoom f m → Passed f m
   accepted-if h room =
-      let b = neither (outside (f .log) (m .idx) (m .term)) (mismatched (f .log) (f .settled) (f .pending) (m .idx) (m .term)) (sym (step-2-is (f .log) (f .settled) (f .pending) good (m .idx) (m .term)) ∙ holds-contains h) in
+      let b = neither (outside (f .log) (m .idx) (m .term)) (mismatched (f .log) (f .settled) (f .pending) (m .idx) (m .term)) (sym (step-2-is (f .log) (f .settled) (f .pending) good (m .idx) (m .term)) ∙ contains-holds (held f) (m .idx) (m .term) .1 h) in
       record { whole = ap not (good-ok (f .log) (f .settled) (f .pending) good); formed = cut-well-formed leader-terms leader-limit cut; inside = b .0; matches = b .1; spares = spared h; room = room }
 
   module _ (c k : Index) (a : Log) (e : engine f m .answer ≡ appended.Done c k a) where
@@ -156,14 +145,14 @@ module _ (xs : List Entry) (leader-terms : NonzeroTerms (whole-list xs)) (leader
     t = took f m c k a e
 
     pub held-before : HoldsPrevious f m
-    held-before = contains-holds (t .contained)
+    held-before = contains-holds (held f) (m .idx) (m .term) .0 (t .contained)
 
     previous : term-of (held f) (m .idx) ≡ term-of leader (m .idx)
     previous = held-before .1 ∙ cut-term cut
 
     -- "from its start to there the follower then holds exactly the leader's records"
     pub then-agree : Agree (held after) leader (last-index m)
-    then-agree = subst (Agree (held after) leader) (sym named) (new-agree (held f) (held after) leader (m .idx) new (t .got) refl new-inside new-at (st .matching) (held-before .0) previous)
+    then-agree = subst (Agree (held after) leader) (sym (named m)) (new-agree (held f) (held after) leader (m .idx) new (t .got) refl new-inside new-at (st .matching) (held-before .0) previous)
 
     keep : (j : ℕ) → Agree (held f) leader j → Agree (held after) leader j
     keep = keep-agree (held f) (held after) leader (m .idx) new (t .got) refl new-inside new-at (st .matching) (held-before .0) previous
@@ -173,15 +162,10 @@ module _ (xs : List Entry) (leader-terms : NonzeroTerms (whole-list xs)) (leader
 
     agree-committed : Agree (held after) leader (committed after)
     agree-committed =
-        let low : held f .start ≤ committed f = st .has-committed .here .0 in
-        let same = t .got .same-start .0 in
         ⊎-elim
-        (λ le. subst (Agree (held after) leader) (omega (arith, t .committed-is)) (keep (committed f) (st .has-committed)))
-        (λ le. ⊎-elim
-        (λ lower. agree-down (held after) leader (committed after) (last-index m) (omega (arith, rises)) (omega (arith, named)) then-agree)
-        (λ higher. subst (Agree (held after) leader) (omega (arith, t .committed-is)) (keep (committed f) (st .has-committed)))
-        (below-or-not (committed after) (m .idx + length new + 1)))
-        (step-5-below (committed f) (m .commit) (m .idx + length new))
+        (λ higher. agree-down (held after) leader (committed after) (last-index m) (omega (arith, st .has-committed .here .0, t .got .same-start .0)) (omega (arith, t .committed-is)) then-agree)
+        (λ level. subst (Agree (held after) leader) (omega (arith, rises)) (keep (committed f) (st .has-committed)))
+        (below-or-not (committed f) (committed after))
 
     pub message-standing : Standing xs after
     message-standing = record {

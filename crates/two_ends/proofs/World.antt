@@ -3,9 +3,9 @@ use Prim.Native.Nat.{ℕ}
 use mathlib.Core.Path.{_≡_, refl, sym, ap, subst, _∙_}
 use mathlib.Core.List.{List, [], _∷_, _++_, append-assoc, append-nil, List·Memᴰ·head, List·Memᴰ·cases-cons, List·Memᴰ·not-nil}
 use mathlib.Core.Logic.{inl, inr, ⊎-elim, ⊎-map}
-use Rattle.rules.specs.Log.{Entry, Agree}
+use Rattle.rules.specs.Log.{Entry, whole-list, Agree}
 use Rattle.two_ends.specs.Follower.{Follower, held, Message, Receiver, engine, Event, arrives, between, follow}
-use Rattle.two_ends.specs.Leader.{whole-list, CutFrom}
+use Rattle.two_ends.specs.Leader.{CutFrom}
 use Rattle.two_ends.specs.TwoEnds.{Possible, Trace, Accepts, OfMessage, TwoEnds, Theorem}
 use Rattle.two_ends.specs.World.{World, Happening, grows, sends, meets, next, May, history, History, AllCut, InTime, TheoremInTime, Happens, EveryTraceHappens}
 use Rattle.two_ends.proofs.Cuts.{cut-grown, sent-cut}

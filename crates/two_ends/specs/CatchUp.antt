@@ -6,10 +6,10 @@ use Prim.Native.Nat.{ℕ, _+_, _≤_, min, max}
 use mathlib.Core.Path.{_≡_}
 use mathlib.Core.List.{List, [], _∷_, _++_}
 use lib.ListN.{length, drop}
-use Rattle.rules.specs.Log.{Entry, last, Agree}
+use Rattle.rules.specs.Log.{Entry, whole-list, last, Agree}
 use Rattle.rules.specs.Receiver.{with-entries}
 use Rattle.two_ends.specs.Follower.{Follower, held, committed, Message, last-index, Receiver, HasRoom, Event, arrives, between, follow}
-use Rattle.two_ends.specs.Leader.{whole-list, cut}
+use Rattle.two_ends.specs.Leader.{cut}
 use Rattle.two_ends.specs.TwoEnds.{Premises, Possible, Accepts}
 
 -- What may happen besides: all that demand 3 lets happen, the leader's other messages late or repeated among it. None carries a larger commit number: the leader's only rises.

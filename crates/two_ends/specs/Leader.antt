@@ -3,12 +3,8 @@ use Prim.Native.Nat.{ℕ, _+_, _≤_}
 use mathlib.Core.Path.{_≡_}
 use mathlib.Core.List.{List, [], _∷_}
 use lib.ListN.{length}
-use Rattle.rules.specs.Log.{Entry, Log, term-of, records-after}
+use Rattle.rules.specs.Log.{Entry, whole-list, records-after, term-of}
 use Rattle.two_ends.specs.Follower.{Message}
-
--- The list as a log: it starts with (0, 0), which "comes before every list".
-abbrev pub whole-list : List Entry → Log
-whole-list xs = record { start = 0; start-term = 0; entries = xs }
 
 -- Records as a run, the first at index i.
 unfoldable pub as-run : ℕ → List Entry → List ℕ

@@ -5,7 +5,7 @@ use mathlib.Core.List.{List, [], _∷_}
 use Rattle.units.specs.Units.{indexOf, termOf}
 use Rattle.units.specs.Refusals.{brokenState, misnumberedRun, zeroTerm, mismatch}
 use Rattle.units.specs.declared.Index.{Index}
-use Rattle.rules.specs.Log.{Entry}
+use Rattle.rules.specs.Log.{Entry, entry}
 use Rattle.raft_log.specs.declared.Log.{Log}
 use Rattle.raft_log.specs.declared.Appended.{Appended}
 use Rattle.raft_log.specs.declared.Appended.the-variants.{Done, Refused}
@@ -19,10 +19,6 @@ use Rattle.two_ends.specs.Follower.{Follower, committed, Message, Receiv
 use Rattle.two_ends.specs.Leader.{cut}
 
 -- ---- two ends
-
--- A record, by its term and its body.
-abbrev pub entry : ℕ → ℕ → Entry
-entry t b = record { term = t; body = b }
 
 -- A leader's list: terms 1, 1, 2, 2.
 abbrev pub leader : List Entry

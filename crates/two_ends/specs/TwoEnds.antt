@@ -8,13 +8,13 @@ use lib.ListN.{length}
 use Rattle.units.specs.Units.{indexLimit}
 use Rattle.units.specs.Refusals.{brokenState, misnumberedRun, zeroTerm, cutsCommitted}
 use Rattle.units.specs.declared.Index.{Index}
-use Rattle.rules.specs.Log.{Entry, term-of, entry-at, Holds, Same, Matching, Agree}
+use Rattle.rules.specs.Log.{Entry, whole-list, entry-at, term-of, Holds, Same, Matching, Agree}
 use Rattle.raft_log.specs.declared.Log.{Log}
 use Rattle.raft_log.specs.declared.Appended.the-variants as appended
 use Rattle.raft_log.specs.State.{broken}
 use Rattle.log_laws.specs.Keep.{NonzeroTerms}
 use Rattle.two_ends.specs.Follower.{Follower, held, committed, Message, last-index, WellFormed, Outcome, Receiver, HasRoom, Event, arrives, between, follow, Made}
-use Rattle.two_ends.specs.Leader.{whole-list, CutFrom}
+use Rattle.two_ends.specs.Leader.{CutFrom}
 
 -- "At the start, against all that the list ever comes to hold, ..
 pub record Premises (xs : List Entry) (f : Follower) : Type 0 where

@@ -6,11 +6,11 @@ use mathlib.Core.Bool.{false}
 use mathlib.Core.Logic.{_⊎_}
 use mathlib.Core.List.{List, [], _∷_, _++_, List·Memᴰ}
 use lib.ListN.{length}
-use Rattle.rules.specs.Log.{Entry, Agree}
+use Rattle.rules.specs.Log.{Entry, whole-list, Agree}
 use Rattle.raft_log.specs.State.{broken}
 use Rattle.log_laws.specs.Keep.{NonzeroTerms}
 use Rattle.two_ends.specs.Follower.{Follower, held, Message, WellFormed, Receiver, Event, arrives, between, step, follow}
-use Rattle.two_ends.specs.Leader.{whole-list, cut, CutFrom}
+use Rattle.two_ends.specs.Leader.{cut, CutFrom}
 use Rattle.two_ends.specs.TwoEnds.{Premises, Trace, Accepts, OfMessage, Keeps}
 
 -- The two ends and the line between them.

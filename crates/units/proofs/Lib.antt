@@ -5,3 +5,4 @@ pub mod Copying
 pub mod ByValue
 pub mod Told
 pub mod Exact
+pub mod Numbers
