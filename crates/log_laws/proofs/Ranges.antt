@@ -5,7 +5,7 @@ use Prim.Native.Nat.{ℕ, zero, suc, _+_, _-_, _*_, _≤_, _<_}
 use native.Mathlib.Omega.{arith}
 use lib.ListN.{length, getD, take, drop, length-take, length-drop, length-append, List·getD-append}
 use lib.Seq.{drop-cons, getD-take, getD-drop, getD-append-add}
-use Rattle.rules.specs.Log.{Entry, entry, nothing, Log as Abstract, last, entry-at}
+use Rattle.rules.specs.Log.{Entry, nothing, Log as Abstract, last, entry-at}
 use Rattle.raft_log.specs.Words.{recordWords, room}
 use Rattle.raft_log.specs.Slice.{storePart}
 use Rattle.log_laws.specs.View.{storeEntry, listed, records}

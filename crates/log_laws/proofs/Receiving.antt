@@ -6,7 +6,7 @@ use mathlib.Core.Logic.{_⊎_, ⊎-elim, inl, inr}
 use mathlib.Core.List.{List, _++_, append-nil}
 use Prim.Native.Nat.{ℕ, _+_, _-_, _≤_, _<_, min, max}
 use native.Mathlib.Omega.{arith}
-use borrow.Author.Tests.{lt-ltb, le-ltb, le-leb, lt-leb, eq-eqb, ne-eqb, eqb-true, eqb-false, ltb-false, leb-true, not-false}
+use borrow.Author.Tests.{lt-ltb, le-ltb, le-leb, lt-leb, eq-eqb, ne-eqb, eqb-true, ltb-false, not-false}
 use lib.Dec.{ltb, eqb, leb}
 use lib.ListN.{length, getD, drop, drop-of-length-le}
 use Rattle.rules.specs.Log.{Entry, nothing, Log as Abstract, last}
@@ -25,7 +25,7 @@ use Rattle.raft_log.specs.State.{Good, lastOf, broken, termAt}
 use Rattle.raft_log.specs.Run.{misnumbered, zeroTermIn, zeroAt, termsSet}
 use Rattle.raft_log.specs.Append.{cuts, accepted, decide, matchRun, appendAnswer, outside, mismatched, differs, cutIf, commitUp, afterMessage, overfull, appendStore}
 use Rattle.log_laws.specs.View.{runEntry, listed, runEntries, view-of, messageOf}
-use Rattle.raft_log.proofs.States.{split, refuted, neither, whole-good, no-term}
+use Rattle.raft_log.proofs.States.{refuted, neither, whole-good, no-term}
 use Rattle.raft_log.proofs.Searching.{below-or-not, found}
 use Rattle.raft_log.proofs.Conflicts.{alike-held}
 use Rattle.raft_log.proofs.Appending.{no-done, other-refusal, done-passed}

@@ -7,7 +7,7 @@ use mathlib.Core.Logic.{_⊎_, inl, inr, ⊎-elim}
 use native.Mathlib.Omega.{arith}
 use lib.ListN.{length, length-map}
 use lib.Dec.{leb}
-use borrow.Author.Tests.{leb-true, not-false}
+use borrow.Author.Tests.{leb-true}
 use Rattle.units.specs.Units.{wordMax, indexOf}
 use Rattle.units.specs.Refusals.{brokenState, brokenSet, bothChecks}
 use Rattle.units.specs.declared.Check.the-variants as check
@@ -34,7 +34,7 @@ use Rattle.quorum_laws.proofs.Answers.{JointWhole, at-exactly-if, NoVoters, ind
 use Rattle.raft_log.specs.State.{broken}
 use Rattle.raft_log.specs.declared.Log.{Log}
 use Rattle.raft_log.specs.declared.Decided.the-variants as decided
-use Rattle.raft_log.proofs.States.{refuted, not-both, ok-good}
+use Rattle.raft_log.proofs.States.{refuted, not-both, whole-good}
 use Rattle.raft_log.proofs.Commits.{no-commit-beyond}
 use Rattle.leader.specs.Leader.{leaderCommit}
 use Rattle.leader.proofs.Backed.{commits-by-the-rule, refuses-broken, refuses-set}
@@ -93,7 +93,7 @@ module _ (l : Log) (settled pending : List ℕ) (term : ℕ) (config : JointConf
   yes-voters : ¬ NoVoters config
   unfolding leaderCommit
   yes-voters none =
-      let good = ok-good l settled pending (not-false _ sound) in
+      let good = whole-good l settled pending sound in
       let beyond = no-commit-beyond l settled pending sound wordMax term (omega (arith, good .committed≤last, good .last≤limit)) (omega (arith, good .last≤limit)) in
       let nay : leaderCommit l settled pending term config peers ≡ decided.No = rw (nobody-index config peers yes-whole none) beyond in
       never cc

@@ -11,7 +11,7 @@ use Rattle.units.specs.Units.{indexLimit}
 use Rattle.rules.specs.Log.{Entry, entry, nothing, whole-list, records-after, entry-at, term-of}
 use Rattle.raft_log.specs.Words.{runWords, runCount, runIndex, runTerm, none}
 use Rattle.raft_log.specs.Run.{misplaced, zeroAt, numbered, termsSet}
-use Rattle.raft_log.proofs.Searching.{found, found-is, same-not}
+use Rattle.raft_log.proofs.Searching.{same-not, below-none}
 use Rattle.log_laws.specs.View.{runEntry, runEntries}
 use Rattle.log_laws.specs.Keep.{NonzeroTerms}
 use Rattle.log_laws.proofs.Views.{length-listed, at-listed, entry-after}
@@ -67,7 +67,7 @@ as-run-entries i es =
 none-of : (i : ℕ) (es : List Entry) (p : ℕ → Bool) → ((k : ℕ) → k < length es → p k ≡ false) → none p (runCount (as-run i es)) ≡ true
 none-of i es p h =
     let count = as-run-count i es in
-    eq-eqb _ _ (found-is (found p 0 _) (record { within = omega arith; hit = λ r. absurd (omega arith); passed = λ k a b. h k (omega arith) }))
+    below-none p _ (λ k r. h k (omega arith))
 
 -- refusal 2 is not given to it where it ends within the limit
 pub as-run-numbered : (idx : ℕ) (es : List Entry) → idx + length es ≤ indexLimit → numbered (as-run (idx + 1) es) idx ≡ true

@@ -1,7 +1,7 @@
 -- DEMAND 3: the engine keeps the promise of TwoEnds.antt. What stands between the two ends at the start stands after every event.
 use Prim.Native.Nat.{ℕ, _≤_}
 use mathlib.Core.Path.{_≡_, refl, sym, ap, subst, _∙_}
-use mathlib.Core.Bool.{false, not}
+use mathlib.Core.Bool.{false}
 use mathlib.Core.List.{List, [], _∷_}
 use mathlib.Core.Logic.{_⊎_, ⊎-elim}
 use native.Mathlib.Omega.{arith}
@@ -13,7 +13,8 @@ use Rattle.rules.specs.Log.{Entry, whole-list, Agree}
 use Rattle.raft_log.specs.declared.Appended.{Appended}
 use Rattle.raft_log.specs.declared.Appended.the-variants as appended
 use Rattle.raft_log.specs.State.{broken}
-use Rattle.raft_log.proofs.States.{good-ok, not-both}
+use Rattle.raft_log.proofs.States.{not-both, good-whole}
+use Rattle.raft_log.proofs.Appending.{other-refusal}
 use Rattle.log_laws.specs.Keep.{NonzeroTerms}
 use Rattle.two_ends.specs.Follower.{Follower, held, Message, last-index, WellFormed, Receiver, answer-to, engine, HasRoom, Between, does, Event, arrives, between, follow}
 use Rattle.two_ends.specs.Leader.{CutFrom}
@@ -31,7 +32,7 @@ module _ (xs : List Entry) (leader-terms : NonzeroTerms (whole-list xs)) (leader
   Stays f g = Standing xs g × Keeps xs f g
 
   whole : (f : Follower) → Standing xs f → broken (f .log) (f .settled) (f .pending) ≡ false
-  whole f st = ap not (good-ok (f .log) (f .settled) (f .pending) (st .sound .0))
+  whole f st = good-whole (f .log) (f .settled) (f .pending) (st .sound .0)
 
   -- ---- one message
   module _ (f : Follower) (st : Standing xs f) (m : Message) where
@@ -74,9 +75,7 @@ module _ (xs : List Entry) (leader-terms : NonzeroTerms (whole-list xs)) (leader
 
     -- a malformed message gets another number
     other-number : (n : ℕ) → (n ≡ cutsCommitted → ⊥) → answer-to f m ≡ appended.Refused n → engine f m .answer ≡ appended.Refused cutsCommitted → ⊥
-    other-number n unlike e h =
-        let same : appended.Refused n ≡ appended.Refused cutsCommitted = sym e ∙ sym (engine-answer f m) ∙ h in
-        unlike (cc same)
+    other-number n unlike e h = other-refusal unlike (sym e ∙ sym (engine-answer f m) ∙ h)
 
     never-six : Possible xs m → engine f m .answer ≡ appended.Refused cutsCommitted → ⊥
     never-six = ⊎-elim no-six (λ bad. ⊎-elim (other-number misnumberedRun (λ q. omega arith)) (other-number zeroTerm (λ q. omega arith)) (malformed-refused f m (whole f st) bad))

@@ -12,7 +12,7 @@ use Rattle.units.specs.declared.Index.{Index}
 use Rattle.units.proofs.Cond.{taken as first-end}
 use Rattle.units.proofs.Never.{never}
 use Rattle.rules.specs.Log.{Entry, nothing, Log as Abstract, whole-list, last, entry-at, term-of, Matching, Agree}
-use Rattle.rules.specs.Receiver.{reply-false, success, contains, step-5, receiver}
+use Rattle.rules.specs.Receiver.{success, contains, receiver}
 use Rattle.rules.proofs.Receiver.{contains-holds, raised}
 use Rattle.raft_log.specs.declared.Log.{Log}
 use Rattle.raft_log.specs.declared.Appended.{Appended}
@@ -21,7 +21,7 @@ use Rattle.raft_log.specs.Words.{runCount, runTerm}
 use Rattle.raft_log.specs.State.{Good, termAt}
 use Rattle.raft_log.specs.Append.{differs, cuts, outside, mismatched, matchRun, appendAnswer}
 use Rattle.raft_log.proofs.Searching.{below-or-not, found, same-not}
-use Rattle.raft_log.proofs.States.{split, refuted, not-both, neither, good-ok}
+use Rattle.raft_log.proofs.States.{split, refuted, not-both, neither, good-whole}
 use Rattle.log_laws.specs.View.{runEntry, runEntries}
 use Rattle.log_laws.specs.Keep.{NonzeroTerms}
 use Rattle.log_laws.proofs.Views.{view-term, length-listed, at-listed}
@@ -135,7 +135,7 @@ module _ (xs : List Entry) (leader-terms : NonzeroTerms (whole-list xs)) (leader
   pub accepted-if : HoldsPrevious f m → HasRoom f m → Passed f m
   accepted-if h room =
       let b = neither (outside (f .log) (m .idx) (m .term)) (mismatched (f .log) (f .settled) (f .pending) (m .idx) (m .term)) (sym (step-2-is (f .log) (f .settled) (f .pending) good (m .idx) (m .term)) ∙ contains-holds (held f) (m .idx) (m .term) .1 h) in
-      record { whole = ap not (good-ok (f .log) (f .settled) (f .pending) good); formed = cut-well-formed leader-terms leader-limit cut; inside = b .0; matches = b .1; spares = spared h; room = room }
+      record { whole = good-whole (f .log) (f .settled) (f .pending) good; formed = cut-well-formed leader-terms leader-limit cut; inside = b .0; matches = b .1; spares = spared h; room = room }
 
   module _ (c k : Index) (a : Log) (e : engine f m .answer ≡ appended.Done c k a) where
     abbrev after : Follower
