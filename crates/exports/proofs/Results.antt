@@ -47,7 +47,7 @@ use Rattle.quorum.specs.Ids.{distinct}
 use Rattle.quorum.specs.Rows.{idOf, rowsCheck}
 use Rattle.quorum.specs.Voters.{votersOf, votersCheck, setOf}
 use Rattle.quorum.specs.Majority.{indexUnless as committedUnless, resultUnless, committedIndex, voteResult}
-use Rattle.quorum.specs.Joint.{configCheck, isUnless as answerUnless, listedUnless, jointIndex, jointVerdict, singleton, containsOf, idsAnswer}
+use Rattle.quorum.specs.Joint.{configCheck, isUnless as answerUnless, bothIds, listedUnless, jointIndex, jointVerdict, singleton, containsOf, idsAnswer}
 use Rattle.quorum.specs.declared.half.Half.{Half}
 use Rattle.quorum.specs.declared.Committed.the-variants as committed
 use Rattle.quorum.specs.declared.Verdict.the-variants as verdict
@@ -322,7 +322,7 @@ module _ (incoming outgoing answer : List ℕ) where
   joint-contains-tells id = behind _ _ (answer-tells answer _ _ (config-numbered (configFrom incoming outgoing)))
 
   pub joint-ids-tells : Tells check.Refused (idsAnswer (configFrom incoming outgoing) .check) (answer ∷ []) (jointIdsLeaves incoming outgoing answer)
-  joint-ids-tells = behind _ _ (listed-tells answer _ _ (config-numbered (configFrom incoming outgoing)))
+  joint-ids-tells = behind _ _ (listed-tells answer _ (bothIds (configFrom incoming outgoing)) (config-numbered (configFrom incoming outgoing)))
 
   -- Of no configuration is `clear` refused.
   pub joint-clear-tells : Tells check.Refused check.Fine (answer ∷ []) (clearLeaves incoming outgoing answer)

@@ -6,11 +6,12 @@ use native.Mathlib.Omega.{arith}
 use native.Mathlib.Nat.{add-zero}
 use lib.ListN.{length, getD, drop, length-drop}
 use lib.Seq.{getD-drop, drop-drop}
+use borrow.Author.Tests.{eq-eqb, ne-eqb}
 use Rattle.quorum.specs.Ids.{position}
 use Rattle.quorum.specs.Rows.{nobody, idOf, rowOf, valueFor}
 use Rattle.quorum.specs.declared.rows.Peer.{Peer}
 use Rattle.quorum.specs.declared.rows.Question.{Question}
-use Rattle.quorum.proofs.IdLaws.{position-here, position-next}
+use Rattle.quorum.proofs.IdLaws.{row-cons}
 use Rattle.quorum.proofs.Gathered.{nothing-read}
 use Rattle.exports.specs.Rows.{rowLength, peerFrom, peersFrom, rowIds, readOf}
 
@@ -60,14 +61,7 @@ module _ (words : List ℕ) (at : ℕ) (short : length words < at + rowLength) w
   pub ids-end : rowIds (drop at words) ≡ []
   ids-end = ap (map idOf) rows-end
 
--- The row of an id: the first where it has the id, else that among the others; nobody's among none.
-row-here : (id : ℕ) (p : Peer) (others : List Peer) → p .id ≡ id → rowOf (p ∷ others) id ≡ p
-row-here id p others e = ap (λ (k : ℕ). getD (p ∷ others) k nobody) (position-here id (p .id) (map idOf others) e)
-
-row-further : (id : ℕ) (p : Peer) (others : List Peer) → (p .id ≡ id → ⊥) → rowOf (p ∷ others) id ≡ rowOf others id
-row-further id p others e = ap (λ (k : ℕ). getD (p ∷ others) k nobody) (position-next id (p .id) (map idOf others) e)
-
--- What a question reads of it, from a place on.
+-- What a question reads of the row of an id, from a place on.
 module _ (q : Question) (words : List ℕ) (id at : ℕ) where
   module _ (h : at + rowLength ≤ length words) where
     abbrev there : Peer
@@ -76,10 +70,10 @@ module _ (q : Question) (words : List ℕ) (id at : ℕ) where
     pub read-here : getD words at 0 ≡ id → (p : Peer) (others : List Peer) → peersFrom (drop at words) ≡ p ∷ others → valueFor q p ≡ readOf q (drop at words) id
     read-here e p others f =
         let same : p ≡ there = ap (λ (rows : List Peer). getD rows 0 nobody) (sym f ∙ row-at words at h) in
-        ap (valueFor q) (same ∙ sym (row-here id there (peersFrom (drop (at + rowLength) words)) e)) ∙ ap (λ (rows : List Peer). valueFor q (rowOf rows id)) (sym (row-at words at h))
+        ap (valueFor q) (same ∙ sym (row-cons there (peersFrom (drop (at + rowLength) words)) id ∙ rw (eq-eqb (getD words at 0) id e))) ∙ ap (λ (rows : List Peer). valueFor q (rowOf rows id)) (sym (row-at words at h))
 
     pub read-further : (getD words at 0 ≡ id → ⊥) → readOf q (drop at words) id ≡ readOf q (drop (at + rowLength) words) id
-    read-further e = ap (λ (rows : List Peer). valueFor q (rowOf rows id)) (row-at words at h) ∙ ap (valueFor q) (row-further id there (peersFrom (drop (at + rowLength) words)) e)
+    read-further e = ap (λ (rows : List Peer). valueFor q (rowOf rows id)) (row-at words at h) ∙ ap (valueFor q) (row-cons there (peersFrom (drop (at + rowLength) words)) id ∙ rw (ne-eqb (getD words at 0) id e))
 
   pub read-nowhere : length words < at + rowLength → readOf q (drop at words) id ≡ 0
   unfolding position

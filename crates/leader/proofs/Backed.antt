@@ -20,8 +20,9 @@ use Rattle.quorum.specs.declared.Committed.the-variants as found
 use Rattle.quorum.specs.declared.half.Half.{Half}
 use Rattle.quorum.specs.declared.joint.JointConfig.{JointConfig}
 use Rattle.quorum.specs.declared.rows.Peer.{Peer}
+use Rattle.quorum_laws.specs.Questions.{JointWhole}
 use Rattle.quorum_laws.proofs.Joint.{half-backs}
-use Rattle.quorum_laws.proofs.Answers.{JointWhole, joint-index-refused}
+use Rattle.quorum_laws.proofs.Answers.{joint-index-refused}
 use Rattle.raft_log.specs.State.{lastOf, broken, termAt}
 use Rattle.raft_log.specs.Append.{withCommitted}
 use Rattle.raft_log.specs.Commit.{mayCommit, maybeCommit}

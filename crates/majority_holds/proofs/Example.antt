@@ -1,7 +1,7 @@
 -- That the premises can be met: three voters, and a list of one record; the leader has it, a follower has accepted it, the third voter is silent. The leader's step commits index 1, and so a majority of the three holds the record.
 use Prim.Native.Nat.{ℕ, zero, suc, _≤_, _<_}
 use mathlib.Core.Path.{refl}
-use mathlib.Core.Bool.{Bool, true, false}
+use mathlib.Core.Bool.{Bool, true, false, cond}
 use mathlib.Core.List.{List, [], _∷_}
 use native.Mathlib.Omega.{arith}
 use lib.Dec.{eqb, lit<, lit≤}
@@ -10,7 +10,7 @@ use Rattle.units.specs.Units.{indexOf}
 use Rattle.rules.specs.Count.{count}
 use Rattle.rules.specs.Log.{Entry, entry, whole-list, Same}
 use Rattle.rules.specs.Majority.{insert, falling, kth-largest, committed}
-use Rattle.quorum.specs.Ids.{zero-if, position, has, distinct}
+use Rattle.quorum.specs.Ids.{position, has, distinct}
 use Rattle.quorum.specs.Voters.{setOf}
 use Rattle.quorum.specs.Rows.{nobody, ackNumber}
 use Rattle.quorum.specs.Half.{halfIndex}
@@ -90,7 +90,7 @@ honest : Honest the-list (λ id. full) peers
 unfolding concrete
 honest id = by-tests (eqb 1 id) (eqb 2 id)
   where
-    by-tests : (leads follows : Bool) → let k : ℕ = ackNumber (getD peers (zero-if leads (zero-if follows 0)) nobody .ack) in 0 < k → Acknowledged the-list full k
+    by-tests : (leads follows : Bool) → let k : ℕ = ackNumber (getD peers (cond leads 0 (suc (cond follows 0 (suc 0)))) nobody .ack) in 0 < k → Acknowledged the-list full k
     by-tests true follows h = own (acknowledged-holds the-list full 1 (accepted has-accepted)) (lit≤ tt, lit≤ tt)
     by-tests false true h = accepted has-accepted
     by-tests false false h = absurd (omega arith)

@@ -1,9 +1,9 @@
 -- DEMAND 3, the leader's side: the engine and the quorums keep the promise of MajorityHolds.antt.
 use Prim.Native.Nat.{ℕ, _≤_, _<_, max}
 use mathlib.Core.Path.{_≡_, refl, sym, ap, subst}
-use mathlib.Core.Bool.{true, false, and-eq-true-iff}
+use mathlib.Core.Bool.{true, false}
 use mathlib.Core.List.{List, [], _∷_, map}
-use mathlib.Core.Logic.{_⊎_, inl, inr, ⊎-elim}
+use mathlib.Core.Logic.{_⊎_, inl, inr}
 use native.Mathlib.Omega.{arith}
 use lib.ListN.{length, length-map}
 use lib.Dec.{leb}
@@ -12,11 +12,10 @@ use Rattle.units.specs.Units.{wordMax, indexOf}
 use Rattle.units.specs.Refusals.{brokenState, brokenSet, bothChecks}
 use Rattle.units.specs.declared.Check.the-variants as check
 use Rattle.units.proofs.Never.{never}
+use Rattle.units.proofs.Checks.{both-fine, refused-not-fine}
 use Rattle.rules.specs.Count.{count}
 use Rattle.rules.specs.Log.{Entry, whole-list, Agree}
 use Rattle.rules.proofs.Count.{count-map}
-use Rattle.quorum.specs.Limits.{voterLimit}
-use Rattle.quorum.specs.Ids.{distinct}
 use Rattle.quorum.specs.Rows.{rowsCheck}
 use Rattle.quorum.specs.Voters.{votersOf, votersCheck}
 use Rattle.quorum.specs.Half.{halfIndex, joined}
@@ -26,11 +25,11 @@ use Rattle.quorum.specs.declared.Committed.the-variants as found
 use Rattle.quorum.specs.declared.majority.Voters.{Voters}
 use Rattle.quorum.specs.declared.joint.JointConfig.{JointConfig}
 use Rattle.quorum.specs.declared.rows.Peer.{Peer}
-use Rattle.quorum.proofs.Checks.{fine-true}
 use Rattle.quorum_laws.specs.JointRule.{Backs}
-use Rattle.quorum_laws.proofs.Checks.{both-fine, config-twelve, with-rows-twelve}
+use Rattle.quorum_laws.specs.Questions.{JointWhole, NoVoters}
+use Rattle.quorum_laws.proofs.Checks.{distinct-voters, else-fine}
 use Rattle.quorum_laws.proofs.Joint.{half-backs, joined-free, joined-nobody}
-use Rattle.quorum_laws.proofs.Answers.{JointWhole, at-exactly-if, NoVoters, index-answer}
+use Rattle.quorum_laws.proofs.Answers.{at-exactly-if, index-answer}
 use Rattle.raft_log.specs.State.{broken}
 use Rattle.raft_log.specs.declared.Log.{Log}
 use Rattle.raft_log.specs.declared.Decided.the-variants as decided
@@ -66,9 +65,6 @@ one-is-not [] [] h = absurd (h (refl, refl))
 one-is-not [] (y ∷ ys) h = inr (omega arith)
 one-is-not (x ∷ xs) ys h = inl (omega arith)
 
-distinct-voters : (v : Voters) → votersCheck v ≡ check.Fine → distinct (votersOf v) ≡ true
-distinct-voters v e = and-eq-true-iff (leb (v .count) voterLimit) (distinct (votersOf v)) .0 (fine-true _ e) .1
-
 -- ---- the leader's step
 
 -- Where nobody has a say, the index is one that no log reaches.
@@ -86,9 +82,7 @@ module _ (l : Log) (settled pending : List ℕ) (term : ℕ) (config : JointConf
 
   yes-whole : JointWhole config peers
   yes-whole =
-      ⊎-elim (λ fine. fine)
-      (λ twelve. absurd (not-refused brokenSet (refuses-set l settled pending term config peers sound (λ fine. never cc))))
-      (with-rows-twelve (configCheck config) peers (config-twelve config))
+      else-fine (bothChecks (configCheck config) (rowsCheck peers)) (λ n e. not-refused brokenSet (refuses-set l settled pending term config peers sound (refused-not-fine e)))
 
   yes-voters : ¬ NoVoters config
   unfolding leaderCommit

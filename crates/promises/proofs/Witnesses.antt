@@ -28,12 +28,11 @@ use Rattle.quorum.specs.declared.joint.JointConfig.{JointConfig}
 use Rattle.quorum.specs.declared.rows.Peer.{Peer}
 use Rattle.quorum_laws.specs.JointRule.{Backs, JointCommits, Wins, Loses}
 use Rattle.quorum_laws.specs.IdsRule.{Rising, ListsBoth}
+use Rattle.quorum_laws.specs.Questions.{Whole, JointWhole, WordRows, NoVoters, SameVoters}
 use Rattle.quorum_laws.proofs.Votes.{won-exactly-if-sure, lost-exactly-if-hopeless}
 use Rattle.quorum_laws.proofs.Joint.{joint-unique, joined-commits}
 use Rattle.quorum_laws.proofs.Ids.{both-ids}
 use Rattle.quorum_laws.proofs.Checks.{OnlyTwelve}
-use Rattle.quorum_laws.proofs.Answers.{Whole, JointWhole, WordRows, NoVoters}
-use Rattle.quorum_laws.proofs.Order.{SameVoters}
 use Rattle.inflights.specs.State.{startFits, deferredFits, sound, windowCheck, capCheck, isFull, roomCheck, Waits, Sound}
 use Rattle.inflights.specs.Ring.{placeOf, values, flightsFrom, leading, InRing}
 use Rattle.inflights.specs.Calls.{made, withCap, setCapCheck, capped, fullness, counted, addCheck, added, takeUp, freeTo, freedTo}
@@ -240,7 +239,7 @@ unfolding quorums
 joint-not-whole w = never cc
 
 pub not-only-twelve : OnlyTwelve (check.Refused windowFull) → ⊥
-not-only-twelve = ⊎-elim (λ e. never cc) (λ e. let z : _≡_ {A = ℕ} 11 12 = cc in omega arith)
+not-only-twelve twelve = let z : _≡_ {A = ℕ} 11 12 = twelve 11 refl in omega arith
 
 -- A configuration of nobody, and one of five.
 pub no-voters : NoVoters (oneSet noVoters)

@@ -1,13 +1,15 @@
--- Laws of positions and of distinct ids.
+-- Laws of positions, of standing in a list and of distinct ids.
 use Prim.Native.Nat.{ℕ, suc, _≤_, _<_}
-use mathlib.Core.Path.{_≡_, refl, sym, _∙_}
-use mathlib.Core.Bool.{Bool, true, false}
-use mathlib.Core.List.{List, _∷_}
+use mathlib.Core.Path.{_≡_, refl}
+use mathlib.Core.Bool.{Bool, true, false, _||_, cond}
+use mathlib.Core.List.{List, [], _∷_, map}
 use native.Mathlib.Omega.{arith}
-use lib.ListN.{length}
-use lib.Dec.{ltb}
-use borrow.Author.Tests.{eq-eqb, ne-eqb, lt-ltb, le-ltb, ltb-true, ltb-false}
+use lib.ListN.{length, getD}
+use lib.Dec.{eqb, ltb, leb·suc-suc}
+use borrow.Author.Tests.{eq-eqb, ne-eqb, lt-ltb, le-ltb}
 use Rattle.quorum.specs.Ids.{position, has, distinct}
+use Rattle.quorum.specs.Rows.{nobody, idOf, rowOf}
+use Rattle.quorum.specs.declared.rows.Peer.{Peer}
 
 pub position-here : (id x : ℕ) (xs : List ℕ) → x ≡ id → position id (x ∷ xs) ≡ 0
 unfolding position
@@ -29,15 +31,24 @@ pub has-at : (id : ℕ) (xs : List ℕ) (at count : ℕ) → at ≡ position id 
 unfolding has
 has-at id xs at count e f = rw (e, f)
 
--- An id stands in a list that begins with it; past another it stands where it stands in the rest.
-pub has-here : (id x : ℕ) (xs : List ℕ) → x ≡ id → has id (x ∷ xs) ≡ true
-unfolding has
-has-here id x xs e = lt-ltb (position id (x ∷ xs)) (length (x ∷ xs)) (omega (arith, position-here id x xs e))
+-- An id stands in no empty list; in a longer one, at its head or behind it.
+pub has-none : (id : ℕ) → has id [] ≡ false
+unfolding has position
+has-none id = refl
 
-pub has-next : (id x : ℕ) (xs : List ℕ) → (x ≡ id → ⊥) → has id (x ∷ xs) ≡ has id xs
-unfolding has
-has-next id x xs e = at (ltb (position id xs) (length xs)) refl
+pub has-cons : (id x : ℕ) (xs : List ℕ) → has id (x ∷ xs) ≡ eqb x id || has id xs
+unfolding has position
+has-cons id x xs = at (eqb x id) (position id xs)
   where
-    at : (b : Bool) → ltb (position id xs) (length xs) ≡ b → ltb (position id (x ∷ xs)) (length (x ∷ xs)) ≡ ltb (position id xs) (length xs)
-    at true h = lt-ltb (position id (x ∷ xs)) (length (x ∷ xs)) (omega (arith, position-next id x xs e, ltb-true (position id xs) (length xs) h)) ∙ sym h
-    at false h = le-ltb (position id (x ∷ xs)) (length (x ∷ xs)) (omega (arith, position-next id x xs e, ltb-false (position id xs) (length xs) h)) ∙ sym h
+    at : (b : Bool) (n : ℕ) → ltb (cond b 0 (suc n)) (length (x ∷ xs)) ≡ b || ltb n (length xs)
+    at true n = lt-ltb 0 (length (x ∷ xs)) (omega arith)
+    at false n = leb·suc-suc (suc n) (length xs)
+
+-- The row of an id: the first where it has the id, else that among the others.
+pub row-cons : (p : Peer) (peers : List Peer) (id : ℕ) → rowOf (p ∷ peers) id ≡ cond (eqb (idOf p) id) p (rowOf peers id)
+unfolding position
+row-cons p peers id = at (eqb (idOf p) id)
+  where
+    at : (b : Bool) → getD (p ∷ peers) (cond b 0 (suc (position id (map idOf peers)))) nobody ≡ cond b p (rowOf peers id)
+    at true = refl
+    at false = refl

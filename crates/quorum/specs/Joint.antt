@@ -1,11 +1,10 @@
 -- The joint configuration (joint.rs): two voter sets, incoming and outgoing. A reader must know: each question is asked of both halves, and a broken half or broken rows are refusal 12.
-use Prim.Native.Nat.{ℕ}
-use mathlib.Core.Bool.{Bool, true, false, _&&_, _||_}
+use Prim.Native.Nat.{ℕ, _+_}
+use mathlib.Core.Bool.{Bool, _&&_, _||_, cond}
 use mathlib.Core.List.{List, [], _∷_, _++_}
 use lib.ListN.{length, take, set}
 use lib.Dec.{eqb}
-use Prim.Native.Nat.{_+_}
-use Rattle.units.specs.Refusals.{bothChecks}
+use Rattle.units.specs.Refusals.{bothChecks, unless}
 use Rattle.units.specs.declared.Check.{Check}
 use Rattle.units.specs.declared.Check.the-variants as check
 use Rattle.rules.specs.Majority.{falling}
@@ -30,7 +29,7 @@ use Rattle.quorum.specs.declared.rows.Rows.{Rows}
 abbrev pub oneSet : Voters → JointConfig
 oneSet v = record { incoming = v; outgoing = noVoters }
 
--- THE PROMISE of `checked`. Refusal 12 of a configuration: of either half.
+-- THE PROMISE of `checked`. Refusal 12 of a configuration, "over 7 voters, a repeated voter id", in either of its "Two sets, incoming and outgoing".
 abbrev pub configCheck : JointConfig → Check
 configCheck c = bothChecks (votersCheck (c .incoming)) (votersCheck (c .outgoing))
 
@@ -52,8 +51,7 @@ plainJointVerdict c r = resultUnless (bothChecks (configCheck c) (plainCheck r))
 
 -- Document 01's values for each case of a yes-or-no answer.
 abbrev pub isUnless : Check → Bool → Answer
-isUnless check.Fine b = answer.Is b
-isUnless (check.Refused n) b = answer.Refused n
+isUnless k b = unless answer.Refused k (answer.Is b)
 
 -- THE PROMISE of `is_singleton`, which 01, Joint, names: one incoming voter, and nobody outgoing.
 abbrev pub singleton : JointConfig → Answer
@@ -63,15 +61,10 @@ singleton c = isUnless (configCheck c) (eqb (c .outgoing .count) 0 && eqb (c .in
 abbrev pub containsOf : JointConfig → ℕ → Answer
 containsOf c id = isUnless (configCheck c) (has id (votersOf (c .incoming)) || has id (votersOf (c .outgoing)))
 
--- One id more at the end, where it is not there yet.
-abbrev pub one-more-unless : Bool → List ℕ → ℕ → List ℕ
-one-more-unless true ids id = ids
-one-more-unless false ids id = ids ++ (id ∷ [])
-
--- A list that falls, turned round, each once.
+-- A list that falls, turned round: each id at the end, where it is not there yet.
 unfoldable pub rising : List ℕ → List ℕ
 rising [] = []
-rising (x ∷ xs) = one-more-unless (has x (rising xs)) (rising xs) x
+rising (x ∷ xs) = cond (has x (rising xs)) (rising xs) (rising xs ++ (x ∷ []))
 
 -- 01, Joint: "the ids of both, each once. We list ids in rising order".
 unfoldable pub bothIds : JointConfig → List ℕ
@@ -82,19 +75,13 @@ abbrev pub listed : Check → List ℕ → Ids
 listed k ids = record { check = k; ids = padded idLimit ids; count = length ids }
 
 -- One step of listing: the id after those listed, where it is not there yet.
-abbrev pub withIdUnless : Bool → Ids → ℕ → Ids
-withIdUnless true s id = s
-withIdUnless false s id = record { check = s .check; ids = set (s .ids) (s .count) id; count = s .count + 1 }
-
--- The same, by whether it is there.
 abbrev pub withId : Ids → ℕ → Ids
-withId s id = withIdUnless (has id (take (s .count) (s .ids))) s id
+withId s id = cond (has id (take (s .count) (s .ids))) s (record { check = s .check; ids = set (s .ids) (s .count) id; count = s .count + 1 })
 
 -- Document 01's values for each case of the answer: the refusal's number and no id, or the ids.
 abbrev pub listedUnless : Check → List ℕ → Ids
-listedUnless check.Fine ids = listed check.Fine ids
-listedUnless (check.Refused n) ids = listed (check.Refused n) []
+listedUnless k ids = unless (λ n. listed (check.Refused n) []) k (listed check.Fine ids)
 
--- THE PROMISE of `ids`.
+-- THE PROMISE of `ids`. 01, Joint: "the ids of both, each once. We list ids in rising order".
 abbrev pub idsAnswer : JointConfig → Ids
 idsAnswer c = listedUnless (configCheck c) (bothIds c)

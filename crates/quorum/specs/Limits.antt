@@ -9,6 +9,6 @@ voterLimit = 7
 abbrev pub rowLimit : ℕ
 rowLimit = 64
 
--- The ids of both halves of a joint configuration.
+-- 01, Joint: "the ids of both, each once": no more than both sets may have.
 abbrev pub idLimit : ℕ
 idLimit = voterLimit + voterLimit

@@ -2,9 +2,8 @@
 use Prim.Native.Nat.{ℕ}
 use mathlib.Core.List.{List, map}
 use Rattle.units.specs.Units.{indexOf}
-use Rattle.units.specs.Refusals.{bothChecks}
+use Rattle.units.specs.Refusals.{bothChecks, unless}
 use Rattle.units.specs.declared.Check.{Check}
-use Rattle.units.specs.declared.Check.the-variants as check
 use Rattle.quorum.specs.Rows.{rowOf, ackNumber, rowsCheck, idsOf, valuesOf, plainCheck}
 use Rattle.quorum.specs.Voters.{votersOf, votersCheck}
 use Rattle.quorum.specs.Votes.{resultOf}
@@ -22,13 +21,11 @@ use Rattle.quorum.specs.declared.rows.Vote.{Vote}
 
 -- Document 01's values for each case of the index answer: the refusal's number alone, or the index with its flag.
 abbrev pub indexUnless : Check → Half → Committed
-indexUnless check.Fine h = answer.At (indexOf (h .index)) (h .free)
-indexUnless (check.Refused n) h = answer.Refused n
+indexUnless k h = unless answer.Refused k (answer.At (indexOf (h .index)) (h .free))
 
 -- Document 01's values for each case of the vote answer: the refusal's number alone, or how the vote stands.
 abbrev pub resultUnless : Check → VoteResult → Verdict
-resultUnless check.Fine r = verdict.Stands r
-resultUnless (check.Refused n) r = verdict.Refused n
+resultUnless k r = unless verdict.Refused k (verdict.Stands r)
 
 -- The paper, figure 2, "matchIndex[]": "for each server, index of highest log entry known to be replicated on server (initialized to 0 ..)". It is what the lent rows say of an id: 0 where it has no row, or has acknowledged nothing.
 abbrev pub matchIndex : List Peer → ℕ → ℕ
@@ -50,7 +47,7 @@ committedIndex v peers = indexUnless (bothChecks (votersCheck v) (rowsCheck peer
 unfoldable pub voteResult : Voters → List Peer → Verdict
 voteResult v peers = resultUnless (bothChecks (votersCheck v) (rowsCheck peers)) (resultOf (votesOf peers v))
 
--- What the question reads of each voter of a set, by gathered rows.
+-- What the question reads of each voter of a set, by gathered rows. 01, "Where each language form goes": "thin calls above a core over plain values". This, and what follows, is the core.
 abbrev pub plainValues : Rows → Voters → List ℕ
 plainValues r v = map (valueIn (idsOf r) (valuesOf r)) (votersOf v)
 

@@ -1,13 +1,11 @@
 -- Peer rows. A reader must know: a quorum question reads the rows through `rowOf`, the row of a voter by its id; a voter without a row is missing everywhere.
 use Prim.Native.Nat.{ℕ}
-use mathlib.Core.Bool.{_&&_}
 use mathlib.Core.List.{List, map}
 use lib.ListN.{length, getD, take}
-use lib.Dec.{leb}
 use Rattle.units.specs.declared.Index.{Index}
 use Rattle.units.specs.declared.Check.{Check}
 use Rattle.quorum.specs.Limits.{rowLimit}
-use Rattle.quorum.specs.Ids.{position, distinct, fineIf, padded}
+use Rattle.quorum.specs.Ids.{position, fewDistinct, fineIf, padded}
 use Rattle.quorum.specs.declared.rows.Ack.{Ack}
 use Rattle.quorum.specs.declared.rows.Ack.the-variants as ack
 use Rattle.quorum.specs.declared.rows.Vote.{Vote}
@@ -25,7 +23,7 @@ nobody = record { id = 0; ack = ack.Missing; vote = vote.Missing }
 abbrev pub idOf : Peer → ℕ
 idOf p = p .id
 
--- The row of an id: the first that has it, nobody's where none has.
+-- The row of an id: the first that has it, nobody's where none has. 01: "Quorum questions read a lent list of peer rows, at most 64; a voter without a row is missing everywhere."
 abbrev pub rowOf : List Peer → ℕ → Peer
 rowOf peers id = getD peers (position id (map idOf peers)) nobody
 
@@ -34,7 +32,7 @@ abbrev pub ackNumber : Ack → ℕ
 ackNumber ack.Missing = 0
 ackNumber (ack.At index) = index .0
 
--- THE PROMISE of `vote_number`: a vote as a number, for the gathered rows: 0 missing, 1 yes, 2 no.
+-- THE PROMISE of `vote_number`. 01: "its vote as missing, yes or no", as the numbers 0, 1 and 2 for the gathered rows.
 abbrev pub voteNumber : Vote → ℕ
 voteNumber vote.Missing = 0
 voteNumber vote.Yes = 1
@@ -42,14 +40,14 @@ voteNumber vote.No = 2
 
 -- Refusal 12 of the rows: "over 64 rows, a repeated row id".
 abbrev pub rowsCheck : List Peer → Check
-rowsCheck peers = fineIf (leb (length peers) rowLimit && distinct (map idOf peers))
+rowsCheck peers = fineIf (fewDistinct (length peers) rowLimit (map idOf peers))
 
 -- THE PROMISE of `value`: what a question reads of a row, as a number.
 abbrev pub valueFor : Question → Peer → ℕ
 valueFor question.Index p = ackNumber (p .ack)
 valueFor question.Vote p = voteNumber (p .vote)
 
--- THE PROMISE of `gather`: the rows laid into two arrays for one question; `count` is how many there were, also where they did not fit.
+-- THE PROMISE of `gather`. 01, "Where each language form goes": "thin calls above a core over plain values": the rows laid into two arrays for one question; `count` is how many there were, also where they did not fit.
 abbrev pub gathered : Question → List Peer → Rows
 gathered q peers = record { ids = padded rowLimit (map idOf peers); values = padded rowLimit (map (valueFor q) peers); count = length peers }
 
@@ -63,4 +61,4 @@ valuesOf r = take (r .count) (r .values)
 
 -- THE PROMISE of `checked`. Refusal 12 of rows in arrays: "over 64 rows, a repeated row id".
 abbrev pub plainCheck : Rows → Check
-plainCheck r = fineIf (leb (r .count) rowLimit && distinct (idsOf r))
+plainCheck r = fineIf (fewDistinct (r .count) rowLimit (idsOf r))

@@ -51,7 +51,7 @@ yesIn ends = count (λ b. b) ends
 abbrev pub Sure : List Vote → Type 0
 Sure votes = (ends : List Bool) → Ends votes ends → quorum (length votes) ≤ yesIn ends
 
--- Lost: no majority says yes, however it ends.
+-- Lost: no majority says yes, however it ends. 01, Majority: "else Pending if yes plus missing reaches it, else Lost."
 abbrev pub Hopeless : List Vote → Type 0
 Hopeless votes = (ends : List Bool) → Ends votes ends → yesIn ends < quorum (length votes)
 

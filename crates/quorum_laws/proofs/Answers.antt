@@ -7,14 +7,14 @@ use mathlib.Core.Logic.{_↔_, _⊎_, ⊎-map, Iff·rfl, Iff·symm, Iff·trans, 
 use native.Mathlib.Omega.{arith}
 use lib.ListN.{length, getD}
 use Rattle.units.specs.Units.{wordMax, indexOf}
-use Rattle.units.specs.Refusals.{brokenSet, bothChecks}
+use Rattle.units.specs.Refusals.{brokenSet, bothChecks, unless}
 use Rattle.units.specs.declared.Index.{Index}
 use Rattle.units.specs.declared.Check.{Check}
 use Rattle.units.specs.declared.Check.the-variants as check
 use Rattle.units.proofs.Never.{never}
 use Rattle.rules.specs.Majority.{Commits}
 use Rattle.rules.proofs.Majority.{committed-commits, commits-committed}
-use Rattle.quorum.specs.Rows.{nobody, idOf, ackNumber, rowsCheck}
+use Rattle.quorum.specs.Rows.{nobody, idOf, ackNumber}
 use Rattle.quorum.specs.Ids.{position}
 use Rattle.quorum.specs.Voters.{votersOf, votersCheck}
 use Rattle.quorum.specs.Votes.{resultOf, jointResult}
@@ -31,17 +31,11 @@ use Rattle.quorum.specs.declared.joint.JointConfig.{JointConfig}
 use Rattle.quorum.specs.declared.joint.Answer.the-variants as is
 use Rattle.quorum.specs.declared.rows.Peer.{Peer}
 use Rattle.quorum_laws.specs.JointRule.{JointCommits, Wins, Loses}
+use Rattle.quorum_laws.specs.Questions.{Whole, JointWhole, Words, WordRows, NoVoters, JointWins, JointLoses}
 use Rattle.quorum_laws.proofs.Checks.{OnlyTwelve, voters-twelve, config-twelve, with-rows-twelve, refused-by-twelve}
 use Rattle.quorum_laws.proofs.Votes.{pending-if-neither, half-won, half-lost, both-won, either-lost}
-use Rattle.quorum_laws.proofs.Joint.{Words, joint-unique, index-fits, joined-commits, joined-free, joined-one-set}
+use Rattle.quorum_laws.proofs.Joint.{joint-unique, index-fits, joined-commits, joined-free, joined-one-set}
 use Rattle.quorum_laws.proofs.Made.{empty-fine}
-
--- Nothing is wrong with the set, or with either half of a configuration, nor with the rows.
-abbrev pub Whole : Voters → List Peer → Type 0
-Whole v peers = bothChecks (votersCheck v) (rowsCheck peers) ≡ check.Fine
-
-abbrev pub JointWhole : JointConfig → List Peer → Type 0
-JointWhole c peers = bothChecks (configCheck c) (rowsCheck peers) ≡ check.Fine
 
 -- An answer that is no refusal: the check is fine, and the values are the half's, or the vote's.
 pub at-exactly-if : (k : Check) (h : Half) (n : ℕ) (b : Bool) → (indexUnless k h ≡ answer.At (indexOf n) b) ↔ ((k ≡ check.Fine) × ((h .index ≡ n) × (h .free ≡ b)))
@@ -53,16 +47,10 @@ stands-exactly-if check.Fine r s = ((λ e. (refl, (cc))), (λ e. ap verdict.Stan
 stands-exactly-if (check.Refused m) r s = ((λ e. ((cc), (cc))), (λ e. cc (e .0)))
 
 index-refuses : (h : Half) (k : Check) → OnlyTwelve k → (n : ℕ) → (indexUnless k h ≡ answer.Refused n) ↔ ((¬ (k ≡ check.Fine)) × (n ≡ brokenSet))
-index-refuses h = refused-by-twelve (λ k. indexUnless k h) answer.Refused (λ m. refl) (λ m n e. cc) else-not
-  where
-    else-not : (n : ℕ) → ¬ (indexUnless check.Fine h ≡ answer.Refused n)
-    else-not n e = never cc
+index-refuses h = refused-by-twelve answer.Refused (λ m n e. cc) (λ n e. cc)
 
 result-refuses : (r : VoteResult) (k : Check) → OnlyTwelve k → (n : ℕ) → (resultUnless k r ≡ verdict.Refused n) ↔ ((¬ (k ≡ check.Fine)) × (n ≡ brokenSet))
-result-refuses r = refused-by-twelve (λ k. resultUnless k r) verdict.Refused (λ m. refl) (λ m n e. cc) else-not
-  where
-    else-not : (n : ℕ) → ¬ (resultUnless check.Fine r ≡ verdict.Refused n)
-    else-not n e = never cc
+result-refuses r = refused-by-twelve verdict.Refused (λ m n e. cc) (λ n e. cc)
 
 -- What is read of the voters is empty where nobody is a voter.
 module _ {A : Type 0} (f : ℕ → A) where
@@ -115,16 +103,13 @@ module _ (v : Voters) (peers : List Peer) where
   unfolding voteResult
   vote-refused n = result-refuses _ _ (with-rows-twelve (votersCheck v) peers (voters-twelve v)) n
 
--- BOTH HALVES. Each acknowledgement in the rows is a number of 64 bits, as the code's are; so is then each that a voter reads there.
-abbrev pub WordRows : List Peer → Type 0
-WordRows peers = Words (map (λ p. ackNumber (p .ack)) peers)
-
+-- BOTH HALVES. Where each acknowledgement in the rows is a number of 64 bits, so is each that a voter reads there.
 row-word : (peers : List Peer) → WordRows peers → (at : ℕ) → ackNumber (getD peers at nobody .ack) ≤ wordMax
 row-word [] w at = omega arith
 row-word (p ∷ peers) w zero = w .0
 row-word (p ∷ peers) w (suc at) = row-word peers (w .1) at
 
-pub read-words : (peers : List Peer) → WordRows peers → (ids : List ℕ) → Words (map (matchIndex peers) ids)
+read-words : (peers : List Peer) → WordRows peers → (ids : List ℕ) → Words (map (matchIndex peers) ids)
 read-words peers w [] = tt
 read-words peers w (id ∷ ids) = (row-word peers w (position id (map idOf peers)), read-words peers w ids)
 
@@ -142,17 +127,6 @@ joint-values xs ys v w n b = (
 
 either-of : {A B C D : Type 0} → A ↔ C → B ↔ D → (A ⊎ B) ↔ (C ⊎ D)
 either-of h k = (⊎-map (h .0) (k .0), ⊎-map (h .1) (k .1))
-
--- Nobody is a voter of either half.
-abbrev pub NoVoters : JointConfig → Type 0
-NoVoters c = (votersOf (c .incoming) ≡ []) × (votersOf (c .outgoing) ≡ [])
-
--- Won in both halves; lost in either.
-abbrev pub JointWins : JointConfig → List Peer → Type 0
-JointWins c peers = Wins (votesOf peers (c .incoming)) × Wins (votesOf peers (c .outgoing))
-
-abbrev pub JointLoses : JointConfig → List Peer → Type 0
-JointLoses c peers = Loses (votesOf peers (c .incoming)) ⊎ Loses (votesOf peers (c .outgoing))
 
 module _ (c : JointConfig) (peers : List Peer) where
   pub joint-index-answer : WordRows peers → (n : ℕ) (b : Bool)
@@ -218,16 +192,12 @@ module _ (v : Voters) (peers : List Peer) where
 
 -- The other questions of a configuration read no rows, and refuse where a half is broken.
 is-refuses : (b : Bool) (k : Check) → OnlyTwelve k → (n : ℕ) → (isUnless k b ≡ is.Refused n) ↔ ((¬ (k ≡ check.Fine)) × (n ≡ brokenSet))
-is-refuses b = refused-by-twelve (λ k. isUnless k b) is.Refused (λ m. refl) (λ m n e. cc) else-not
-  where
-    else-not : (n : ℕ) → ¬ (isUnless check.Fine b ≡ is.Refused n)
-    else-not n e = never cc
+is-refuses b = refused-by-twelve is.Refused (λ m n e. cc) (λ n e. cc)
 
-list-refuses : (ids : List ℕ) (k : Check) → OnlyTwelve k → (n : ℕ) → (listedUnless k ids .check ≡ check.Refused n) ↔ ((¬ (k ≡ check.Fine)) × (n ≡ brokenSet))
-list-refuses ids = refused-by-twelve (λ k. listedUnless k ids .check) check.Refused (λ m. refl) (λ m n e. cc) else-not
-  where
-    else-not : (n : ℕ) → ¬ (listedUnless check.Fine ids .check ≡ check.Refused n)
-    else-not n e = never cc
+-- (A list of ids stands beside its check.)
+list-check : (k : Check) (ids : List ℕ) → listedUnless k ids .check ≡ unless check.Refused k check.Fine
+list-check check.Fine ids = refl
+list-check (check.Refused n) ids = refl
 
 module _ (c : JointConfig) where
   pub singleton-refused : (n : ℕ) → (singleton c ≡ is.Refused n) ↔ ((¬ (configCheck c ≡ check.Fine)) × (n ≡ brokenSet))
@@ -237,4 +207,4 @@ module _ (c : JointConfig) where
   contains-refused id n = is-refuses _ (configCheck c) (config-twelve c) n
 
   pub ids-refused : (n : ℕ) → (idsAnswer c .check ≡ check.Refused n) ↔ ((¬ (configCheck c ≡ check.Fine)) × (n ≡ brokenSet))
-  ids-refused n = list-refuses (bothIds c) (configCheck c) (config-twelve c) n
+  ids-refused n = rw (list-check (configCheck c) (bothIds c)) (refused-by-twelve check.Refused (λ m n e. cc) (λ n e. cc) (configCheck c) (config-twelve c) n)

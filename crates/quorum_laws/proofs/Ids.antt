@@ -1,7 +1,7 @@
 -- The ids of both halves, put in falling order and listed from the last to the first, each once, are the one rising list of them.
 use Prim.Native.Nat.{ℕ, _≤_, _<_}
 use mathlib.Core.Path.{_≡_, refl, sym, ap, _∙_}
-use mathlib.Core.Bool.{Bool, true, false, _||_, or-true, or-false, or-comm}
+use mathlib.Core.Bool.{Bool, true, false, _||_, cond, or-true, or-false, or-comm}
 use mathlib.Core.List.{List, [], _∷_, _++_}
 use mathlib.Core.Logic.{_⊎_, inl, inr, ⊎-elim}
 use native.Mathlib.Omega.{arith}
@@ -9,24 +9,25 @@ use native.Mathlib.Nat.{le-antisymm}
 use lib.ListN.{length, take, length-append, length-take}
 use lib.Dec.{eqb, leb}
 use borrow.Author.Tests.{eqb-true, eq-eqb}
-use Rattle.units.specs.declared.Check.{Check}
 use Rattle.units.specs.declared.Check.the-variants as check
+use Rattle.units.proofs.Cond.{either-end}
 use Rattle.units.proofs.Never.{never}
+use Rattle.units.proofs.Checks.{both-fine}
 use Rattle.rules.specs.Majority.{reached, falling}
 use Rattle.rules.proofs.Count.{le-or-gt, count-cons, one-at-least}
 use Rattle.rules.proofs.Majority.{reached-hit, Capped, Falls, falls-falling, length-falling}
 use Rattle.quorum.specs.Limits.{idLimit}
 use Rattle.quorum.specs.Ids.{has}
 use Rattle.quorum.specs.Voters.{votersOf, votersCheck}
-use Rattle.quorum.specs.Joint.{configCheck, one-more-unless, rising, bothIds, listedUnless, idsAnswer, containsOf}
+use Rattle.quorum.specs.Joint.{configCheck, rising, bothIds, idsAnswer, containsOf}
 use Rattle.quorum.specs.declared.joint.JointConfig.{JointConfig}
 use Rattle.quorum.specs.declared.joint.Answer.the-variants as answer
 use Rattle.quorum_laws.specs.IdsRule.{Rising, ListsBoth}
-use Rattle.quorum_laws.proofs.Members.{has-none, has-cons, has-append, has-falling}
+use Rattle.quorum_laws.proofs.Members.{has-append, has-falling}
+use Rattle.quorum.proofs.IdLaws.{has-none, has-cons}
 use Rattle.quorum.proofs.Listing.{length-rising}
 use Rattle.quorum.proofs.Padded.{take-padded}
 use Rattle.quorum.proofs.Checks.{voters-within}
-use Rattle.quorum_laws.proofs.Checks.{both-fine}
 
 -- Standing in a list, by cases on its head.
 either : (a b : Bool) → a || b ≡ true → (a ≡ true) ⊎ (b ≡ true)
@@ -44,18 +45,17 @@ has-behind id x xs e = has-cons id x xs ∙ rw (e, or-true (eqb x id))
 
 -- The same members, however often: a list that falls, turned round.
 module _ (id : ℕ) where
-  has-one-more : (x : ℕ) (ids : List ℕ) (b : Bool) → has x ids ≡ b → has id (one-more-unless b ids x) ≡ eqb x id || has id ids
-  has-one-more x ids true e = there (eqb x id) refl
+  has-one-more : (x : ℕ) (ids : List ℕ) → has id (cond (has x ids) ids (ids ++ (x ∷ []))) ≡ eqb x id || has id ids
+  has-one-more x ids = either-end (λ l. has id l ≡ eqb x id || has id ids) (has x ids) (there (eqb x id) refl) (λ new. has-append id ids (x ∷ []) ∙ rw (has-cons id x [], has-none id, or-false (eqb x id)) (or-comm (has id ids) (eqb x id)))
     where
-      there : (t : Bool) → eqb x id ≡ t → has id ids ≡ t || has id ids
-      there true q = ap (λ (n : ℕ). has n ids) (sym (eqb-true x id q)) ∙ e
-      there false q = refl
-  has-one-more x ids false e = has-append id ids (x ∷ []) ∙ rw (has-cons id x [], has-none id, or-false (eqb x id)) (or-comm (has id ids) (eqb x id))
+      there : (t : Bool) → eqb x id ≡ t → has x ids ≡ true → has id ids ≡ t || has id ids
+      there true q e = ap (λ (n : ℕ). has n ids) (sym (eqb-true x id q)) ∙ e
+      there false q e = refl
 
-  pub has-rising : (xs : List ℕ) → has id (rising xs) ≡ has id xs
+  has-rising : (xs : List ℕ) → has id (rising xs) ≡ has id xs
   unfolding rising
   has-rising [] = refl
-  has-rising (x ∷ xs) = has-one-more x (rising xs) (has x (rising xs)) refl ∙ ap (λ (b : Bool). eqb x id || b) (has-rising xs) ∙ sym (has-cons id x xs)
+  has-rising (x ∷ xs) = has-one-more x (rising xs) ∙ ap (λ (b : Bool). eqb x id || b) (has-rising xs) ∙ sym (has-cons id x xs)
 
 -- Turned round, it rises.
 reached-has : (id : ℕ) (xs : List ℕ) → has id xs ≡ true → 0 < reached id xs
@@ -79,18 +79,17 @@ rises-last x (y ∷ ys) r h = (above, rises-last x ys (r .1) (λ z e. h z (has-b
         (λ g. ⊎-elim (λ q. omega (arith, h y (has-head y ys))) (λ q. never (cc (has-none z))) (head-or-behind z x [] g))
         (either (has z ys) (has z (x ∷ [])) (sym (has-append z ys (x ∷ [])) ∙ e))
 
-rises-one-more : (x : ℕ) (ids : List ℕ) (b : Bool) → has x ids ≡ b → Rising ids → ((y : ℕ) → has y ids ≡ true → y ≤ x) → Rising (one-more-unless b ids x)
-rises-one-more x ids true e r h = r
-rises-one-more x ids false e r h = rises-last x ids r (λ y g. other y g (le-or-gt x y))
+rises-one-more : (x : ℕ) (ids : List ℕ) → Rising ids → ((y : ℕ) → has y ids ≡ true → y ≤ x) → Rising (cond (has x ids) ids (ids ++ (x ∷ [])))
+rises-one-more x ids r h = either-end Rising (has x ids) (λ there. r) (λ new. rises-last x ids r (λ y g. other new y g (le-or-gt x y)))
   where
-    other : (y : ℕ) → has y ids ≡ true → (x ≤ y) ⊎ (y < x) → y < x
-    other y g (inl l) = let q : y ≡ x = le-antisymm (h y g) l in never cc
-    other y g (inr l) = l
+    other : has x ids ≡ false → (y : ℕ) → has y ids ≡ true → (x ≤ y) ⊎ (y < x) → y < x
+    other new y g (inl l) = let q : y ≡ x = le-antisymm (h y g) l in never cc
+    other new y g (inr l) = l
 
-pub rising-rises : (xs : List ℕ) → Falls xs → Rising (rising xs)
+rising-rises : (xs : List ℕ) → Falls xs → Rising (rising xs)
 unfolding rising
 rising-rises [] f = tt
-rising-rises (x ∷ xs) f = rises-one-more x (rising xs) (has x (rising xs)) refl (rising-rises xs (f .1)) (λ y e. at-most-cap x y xs (f .0) (sym (has-rising y xs) ∙ e))
+rising-rises (x ∷ xs) f = rises-one-more x (rising xs) (rising-rises xs (f .1)) (λ y e. at-most-cap x y xs (f .0) (sym (has-rising y xs) ∙ e))
 
 -- A list that rises is known by its members.
 first-smallest : (x y : ℕ) (ys : List ℕ) → Rising (y ∷ ys) → has x (y ∷ ys) ≡ true → y ≤ x
@@ -107,7 +106,7 @@ same-behind x y xs ys q r s h id = at (eqb x id) refl
     at true e = not-behind x xs r (eqb-true x id e) (has id xs) refl ∙ sym (not-behind y ys s (sym q ∙ eqb-true x id e) (has id ys) refl)
     at false e = cc (has-cons id x xs, has-cons id y ys, h id)
 
-pub rising-unique : (xs ys : List ℕ) → Rising xs → Rising ys → ((id : ℕ) → has id xs ≡ has id ys) → xs ≡ ys
+rising-unique : (xs ys : List ℕ) → Rising xs → Rising ys → ((id : ℕ) → has id xs ≡ has id ys) → xs ≡ ys
 rising-unique [] [] r s h = refl
 rising-unique [] (y ∷ ys) r s h = cc (h y, has-none y, has-head y ys)
 rising-unique (x ∷ xs) [] r s h = cc (h x, has-none x, has-head x xs)
@@ -130,7 +129,7 @@ pub both-ids-unique : (c : JointConfig) (ids : List ℕ) → ListsBoth c ids →
 both-ids-unique c ids l = rising-unique ids (bothIds c) (l .rises) (both-ids c .rises) (λ id. l .members id ∙ sym (both-ids c .members id))
 
 -- There is room for it.
-pub length-both-ids : (c : JointConfig) → configCheck c ≡ check.Fine → length (bothIds c) ≤ idLimit
+length-both-ids : (c : JointConfig) → configCheck c ≡ check.Fine → length (bothIds c) ≤ idLimit
 unfolding bothIds
 length-both-ids c e =
     let halves = both-fine (votersCheck (c .incoming)) (votersCheck (c .outgoing)) .0 e in
@@ -138,13 +137,9 @@ length-both-ids c e =
     omega (arith, length-rising (falling both), length-falling both, length-append (votersOf (c .incoming)) (votersOf (c .outgoing)), length-take (c .incoming .count) (c .incoming .ids), length-take (c .outgoing .count) (c .outgoing .ids), voters-within (c .incoming) (halves .0), voters-within (c .outgoing) (halves .1))
 
 -- So the answer holds all of it, and `contains` says yes to those ids.
-listed-whole : (k : Check) (ids : List ℕ) → k ≡ check.Fine → length ids ≤ idLimit → take (listedUnless k ids .count) (listedUnless k ids .ids) ≡ ids
-listed-whole check.Fine ids e h = take-padded idLimit ids h
-listed-whole (check.Refused n) ids e h = cc
-
 module _ (c : JointConfig) (fine : configCheck c ≡ check.Fine) where
   pub ids-listed : take (idsAnswer c .count) (idsAnswer c .ids) ≡ bothIds c
-  ids-listed = listed-whole (configCheck c) (bothIds c) fine (length-both-ids c fine)
+  ids-listed = rw fine (take-padded idLimit (bothIds c) (length-both-ids c fine))
 
   pub contains-listed : (id : ℕ) → containsOf c id ≡ answer.Is (has id (bothIds c))
   contains-listed id = rw (fine, both-ids c .members id)

@@ -11,21 +11,22 @@ use Rattle.rules.specs.Majority.{committed}
 use Rattle.rules.proofs.Majority.{reached-falls, committed-commits, Each, committed-each}
 use Rattle.quorum.specs.Half.{halfIndex, joined}
 use Rattle.quorum_laws.specs.JointRule.{Backs, JointCommits}
+use Rattle.quorum_laws.specs.Questions.{Words}
 
 -- At most one number meets the rule.
 pub joint-unique : {xs ys : List ℕ} {m n : ℕ} → JointCommits xs ys m → JointCommits xs ys n → m ≡ n
 joint-unique {xs} {ys} {m} {n} a b =
     le-antisymm (b .largest m (a .fits) (a .by-incoming) (a .by-outgoing)) (a .largest n (b .fits) (b .by-incoming) (b .by-outgoing))
 
--- Each acknowledgement is a number of 64 bits.
-abbrev pub Words : List ℕ → Type 0
-Words acks = Each (λ a. a ≤ wordMax) acks
-
 -- One half.
+each-word : (acks : List ℕ) → Words acks → Each (λ a. a ≤ wordMax) acks
+each-word [] w = tt
+each-word (a ∷ acks) w = (w .0, each-word acks (w .1))
+
 pub index-fits : (acks : List ℕ) → Words acks → halfIndex acks .index ≤ wordMax
 unfolding halfIndex
 index-fits [] w = omega arith
-index-fits (a ∷ acks) w = committed-each (λ n. n ≤ wordMax) (a ∷ acks) (omega arith) w
+index-fits (a ∷ acks) w = committed-each (λ n. n ≤ wordMax) (a ∷ acks) (omega arith) (each-word (a ∷ acks) w)
 
 -- It backs every number up to its index, ..
 pub half-backs : (acks : List ℕ) (m : ℕ) → m ≤ halfIndex acks .index → Backs acks m
@@ -39,7 +40,7 @@ unfolding halfIndex
 backs-up-to-index [] m fits = (half-backs [] m, (λ b. fits))
 backs-up-to-index (a ∷ acks) m fits = (half-backs (a ∷ acks) m, (λ b. committed-commits (a ∷ acks) (omega arith) .largest m (b (omega arith))))
 
-pub free-if-nobody : (acks : List ℕ) → (halfIndex acks .free ≡ true) ↔ (acks ≡ [])
+free-if-nobody : (acks : List ℕ) → (halfIndex acks .free ≡ true) ↔ (acks ≡ [])
 unfolding halfIndex
 free-if-nobody [] = ((λ e. refl), (λ e. refl))
 free-if-nobody (a ∷ acks) = ((λ e. cc), (λ e. cc))

@@ -1,32 +1,19 @@
--- Laws of standing in a list: in one with an element more, in lists joined, put in order or reordered.
+-- Laws of standing in a list: in lists joined, put in order or reordered.
 use Prim.Native.Nat.{ℕ, suc}
 use mathlib.Core.Path.{_≡_, refl, sym, ap, _∙_}
 use mathlib.Core.Bool.{Bool, true, false, not, _&&_, _||_, or-assoc}
 use mathlib.Core.List.{List, [], _∷_, _++_}
 use native.Mathlib.Omega.{arith}
-use lib.ListN.{length}
-use lib.Dec.{leb·suc-suc, eqb, ltb}
+use lib.Dec.{eqb, ltb}
 use borrow.Author.Tests.{lt-ltb, eqb-true, eqb-false, eq-eqb, ne-eqb}
 use Rattle.rules.specs.Count.{one-more-if, count, Reordered, none, keep, swap, then}
 use Rattle.rules.specs.Majority.{falling}
 use Rattle.rules.proofs.Count.{count-reordered}
 use Rattle.rules.proofs.Majority.{count-falling}
-use Rattle.quorum.specs.Ids.{zero-if, position, has, distinct}
+use Rattle.quorum.specs.Ids.{has, distinct}
+use Rattle.quorum.proofs.IdLaws.{has-none, has-cons}
 
--- An id stands in no empty list; in a longer one, at its head or behind it.
-pub has-none : (id : ℕ) → has id [] ≡ false
-unfolding has position
-has-none id = refl
-
-below-or : (b : Bool) (at n : ℕ) → ltb (zero-if b at) (suc n) ≡ b || ltb at n
-below-or true at n = lt-ltb 0 (suc n) (omega arith)
-below-or false at n = leb·suc-suc (suc at) n
-
-pub has-cons : (id x : ℕ) (xs : List ℕ) → has id (x ∷ xs) ≡ eqb x id || has id xs
-unfolding has position
-has-cons id x xs = below-or (eqb x id) (position id xs) (length xs)
-
--- So whether it stands there is whether it is counted there, which no order changes.
+-- Whether an id stands in a list is whether it is counted there, which no order changes.
 unfoldable times : ℕ → List ℕ → ℕ
 times id xs = count (λ x. eqb x id) xs
 
@@ -43,7 +30,7 @@ pub has-falling : (id : ℕ) (xs : List ℕ) → has id (falling xs) ≡ has id 
 unfolding times
 has-falling id xs = has-times id (falling xs) ∙ ap (ltb 0) (count-falling (λ x. eqb x id) xs) ∙ sym (has-times id xs)
 
-pub has-reordered : (id : ℕ) {xs ys : List ℕ} → Reordered xs ys → has id xs ≡ has id ys
+has-reordered : (id : ℕ) {xs ys : List ℕ} → Reordered xs ys → has id xs ≡ has id ys
 unfolding times
 has-reordered id {xs} {ys} r = has-times id xs ∙ ap (ltb 0) (count-reordered (λ x. eqb x id) r) ∙ sym (has-times id ys)
 

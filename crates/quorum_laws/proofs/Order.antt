@@ -1,38 +1,39 @@
 -- No answer depends on the order of the voters or of the rows: counts don't, nor does the row of an id where no id repeats; and where one repeats, it does in every order.
 use Prim.Native.Nat.{ℕ}
 use mathlib.Core.Path.{_≡_, refl, sym, ap, _∙_}
-use mathlib.Core.Bool.{Bool, true, false, not, _&&_, _||_, and-eq-true-iff}
+use mathlib.Core.Bool.{Bool, true, false, not, _&&_, _||_, cond, and-eq-true-iff}
 use mathlib.Core.List.{List, [], _∷_, map, map-congr-left}
 use native.Mathlib.Omega.{arith}
-use lib.ListN.{length, getD}
+use lib.ListN.{length}
 use lib.Dec.{eqb}
 use borrow.Author.Tests.{eqb-true, eq-eqb}
-use Rattle.units.specs.Refusals.{bothChecks}
+use Rattle.units.specs.Refusals.{bothChecks, unless}
 use Rattle.units.specs.declared.Check.{Check}
 use Rattle.units.specs.declared.Check.the-variants as check
+use Rattle.units.proofs.Checks.{both-fine, same-unless}
 use Rattle.rules.specs.Count.{Reordered, none, keep, swap, then}
 use Rattle.rules.proofs.Count.{length-reordered, map-reordered}
 use Rattle.rules.proofs.Majority.{committed-reordered}
-use Rattle.quorum.specs.Ids.{zero-if, position, has, distinct}
-use Rattle.quorum.specs.Rows.{nobody, idOf, rowOf, ackNumber, rowsCheck}
+use Rattle.quorum.specs.Ids.{has, distinct}
+use Rattle.quorum.specs.Rows.{idOf, rowOf, ackNumber, rowsCheck}
 use Rattle.quorum.specs.Voters.{votersOf, votersCheck}
 use Rattle.quorum.specs.Votes.{resultOf}
 use Rattle.quorum.specs.Half.{halfIndex}
-use Rattle.quorum.specs.Majority.{indexUnless, resultUnless, acksOf, votesOf, committedIndex, voteResult}
+use Rattle.quorum.specs.Majority.{acksOf, votesOf, committedIndex, voteResult}
 use Rattle.quorum.specs.Joint.{configCheck, jointIndex, jointVerdict}
+use Rattle.quorum.specs.declared.Committed.the-variants as answer
+use Rattle.quorum.specs.declared.Verdict.the-variants as verdict
 use Rattle.quorum.specs.declared.majority.Voters.{Voters}
 use Rattle.quorum.specs.declared.joint.JointConfig.{JointConfig}
 use Rattle.quorum.specs.declared.rows.Peer.{Peer}
-use Rattle.quorum_laws.proofs.Checks.{both-fine, distinct-rows}
-use Rattle.quorum_laws.proofs.Members.{has-cons, distinct-reordered}
+use Rattle.quorum.proofs.IdLaws.{has-cons, row-cons}
+use Rattle.quorum_laws.specs.Questions.{SameVoters}
+use Rattle.quorum_laws.proofs.Checks.{distinct-rows}
+use Rattle.quorum_laws.proofs.Members.{distinct-reordered}
 use Rattle.quorum_laws.proofs.Votes.{result-reordered}
 
--- THE VOTERS in another order. (The count is a word of its own beside the ids, so it is named too.)
-pub record SameVoters (v w : Voters) : Type 0 where
-  pub as-many : v .count ≡ w .count
-  pub reordered : Reordered (votersOf v) (votersOf w)
-
-pub half-reordered : {xs ys : List ℕ} → Reordered xs ys → halfIndex xs ≡ halfIndex ys
+-- THE VOTERS in another order.
+half-reordered : {xs ys : List ℕ} → Reordered xs ys → halfIndex xs ≡ halfIndex ys
 unfolding halfIndex
 half-reordered {xs} {ys} r = by-length xs ys r (length-reordered r)
   where
@@ -70,24 +71,12 @@ module _ {c d : JointConfig} (in-same : SameVoters (c .incoming) (d .incoming)) 
   unfolding jointVerdict
   joint-verdict-voters = cc (check-voters in-same, check-voters out-same, result-of-voters in-same peers, result-of-voters out-same peers)
 
--- THE ROWS in another order. The row of an id, one row at a time.
-abbrev first-if : Bool → Peer → Peer → Peer
-first-if true p other = p
-first-if false p other = other
-
-row-cons : (p : Peer) (peers : List Peer) (id : ℕ) → rowOf (p ∷ peers) id ≡ first-if (eqb (idOf p) id) p (rowOf peers id)
-unfolding position
-row-cons p peers id = at (eqb (idOf p) id)
-  where
-    at : (b : Bool) → getD (p ∷ peers) (zero-if b (position id (map idOf peers))) nobody ≡ first-if b p (rowOf peers id)
-    at true = refl
-    at false = refl
-
-two-rows : (p q : Peer) (peers : List Peer) (id : ℕ) → rowOf (p ∷ q ∷ peers) id ≡ first-if (eqb (idOf p) id) p (first-if (eqb (idOf q) id) q (rowOf peers id))
-two-rows p q peers id = row-cons p (q ∷ peers) id ∙ ap (first-if (eqb (idOf p) id) p) (row-cons q peers id)
+-- THE ROWS in another order.
+two-rows : (p q : Peer) (peers : List Peer) (id : ℕ) → rowOf (p ∷ q ∷ peers) id ≡ cond (eqb (idOf p) id) p (cond (eqb (idOf q) id) q (rowOf peers id))
+two-rows p q peers id = row-cons p (q ∷ peers) id ∙ ap (cond (eqb (idOf p) id) p) (row-cons q peers id)
 
 -- Two rows of different ids may change places.
-first-either : (a b : Bool) (p q other : Peer) → a && b ≡ false → first-if a p (first-if b q other) ≡ first-if b q (first-if a p other)
+first-either : (a b : Bool) (p q other : Peer) → a && b ≡ false → cond a p (cond b q other) ≡ cond b q (cond a p other)
 first-either true true p q other e = cc
 first-either true false p q other e = refl
 first-either false b p q other e = refl
@@ -109,19 +98,14 @@ heads-apart : (x y : ℕ) (xs : List ℕ) → distinct (x ∷ y ∷ xs) ≡ true
 unfolding distinct
 heads-apart x y xs h = apart (eqb y x) (has x xs) (distinct (y ∷ xs)) (rw (sym (has-cons x y xs)) h)
 
-pub row-reordered : {peers others : List Peer} → Reordered peers others → distinct (map idOf peers) ≡ true → (id : ℕ) → rowOf peers id ≡ rowOf others id
+row-reordered : {peers others : List Peer} → Reordered peers others → distinct (map idOf peers) ≡ true → (id : ℕ) → rowOf peers id ≡ rowOf others id
 row-reordered none h id = refl
-row-reordered (keep p {xs} {ys} r) h id = row-cons p xs id ∙ ap (first-if (eqb (idOf p) id) p) (row-reordered r (behind-distinct (idOf p) (map idOf xs) h) id) ∙ sym (row-cons p ys id)
+row-reordered (keep p {xs} {ys} r) h id = row-cons p xs id ∙ ap (cond (eqb (idOf p) id) p) (row-reordered r (behind-distinct (idOf p) (map idOf xs) h) id) ∙ sym (row-cons p ys id)
 row-reordered (swap p q peers) h id =
     two-rows p q peers id
     ∙ first-either (eqb (idOf p) id) (eqb (idOf q) id) p q (rowOf peers id) (not-both (idOf p) (idOf q) id _ _ refl refl (heads-apart (idOf p) (idOf q) (map idOf peers) h))
     ∙ sym (two-rows q p peers id)
 row-reordered (then r s) h id = row-reordered r h id ∙ row-reordered s (sym (distinct-reordered (map-reordered idOf r)) ∙ h) id
-
--- Where a check refuses, what was read doesn't matter.
-same-unless : {H A : Type 0} (answer : Check → H → A) → ((n : ℕ) (a b : H) → answer (check.Refused n) a ≡ answer (check.Refused n) b) → (k : Check) (a b : H) → (k ≡ check.Fine → a ≡ b) → answer k a ≡ answer k b
-same-unless answer r check.Fine a b e = ap (answer check.Fine) (e refl)
-same-unless answer r (check.Refused n) a b e = r n a b
 
 module _ {peers others : List Peer} (r : Reordered peers others) where
   rows-check : rowsCheck peers ≡ rowsCheck others
@@ -139,22 +123,21 @@ module _ {peers others : List Peer} (r : Reordered peers others) where
     votes-read v = map-congr-left {l = votersOf v} (λ id m. ap (λ (p : Peer). p .vote) (same-row id))
 
   -- A question that reads the rows by its check and by its voters.
-  module _ {H A : Type 0} (answer : Check → H → A) (refuses : (n : ℕ) (a b : H) → answer (check.Refused n) a ≡ answer (check.Refused n) b) (k : Check) (a b : H) where
-    answer-rows : (bothChecks k (rowsCheck peers) ≡ check.Fine → a ≡ b) → answer (bothChecks k (rowsCheck peers)) a ≡ answer (bothChecks k (rowsCheck others)) b
-    answer-rows e = same-unless answer refuses (bothChecks k (rowsCheck peers)) a b e ∙ ap (λ (t : Check). answer (bothChecks k t) b) rows-check
+  answer-rows : {A : Type 0} (refused : ℕ → A) (k : Check) {x y : A} → (bothChecks k (rowsCheck peers) ≡ check.Fine → x ≡ y) → unless refused (bothChecks k (rowsCheck peers)) x ≡ unless refused (bothChecks k (rowsCheck others)) y
+  answer-rows refused k {y = y} e = same-unless refused (bothChecks k (rowsCheck peers)) e ∙ ap (λ (t : Check). unless refused (bothChecks k t) y) rows-check
 
   pub committed-index-rows : (v : Voters) → committedIndex v peers ≡ committedIndex v others
   unfolding committedIndex
-  committed-index-rows v = answer-rows indexUnless (λ n a b. refl) (votersCheck v) _ _ (λ e. ap halfIndex (acks-read (votersCheck v) e v))
+  committed-index-rows v = answer-rows answer.Refused (votersCheck v) (λ e. cc (acks-read (votersCheck v) e v))
 
   pub vote-result-rows : (v : Voters) → voteResult v peers ≡ voteResult v others
   unfolding voteResult
-  vote-result-rows v = answer-rows resultUnless (λ n a b. refl) (votersCheck v) _ _ (λ e. ap resultOf (votes-read (votersCheck v) e v))
+  vote-result-rows v = answer-rows verdict.Refused (votersCheck v) (λ e. cc (votes-read (votersCheck v) e v))
 
   pub joint-index-rows : (c : JointConfig) → jointIndex c peers ≡ jointIndex c others
   unfolding jointIndex
-  joint-index-rows c = answer-rows indexUnless (λ n a b. refl) (configCheck c) _ _ (λ e. cc (acks-read (configCheck c) e (c .incoming), acks-read (configCheck c) e (c .outgoing)))
+  joint-index-rows c = answer-rows answer.Refused (configCheck c) (λ e. cc (acks-read (configCheck c) e (c .incoming), acks-read (configCheck c) e (c .outgoing)))
 
   pub joint-verdict-rows : (c : JointConfig) → jointVerdict c peers ≡ jointVerdict c others
   unfolding jointVerdict
-  joint-verdict-rows c = answer-rows resultUnless (λ n a b. refl) (configCheck c) _ _ (λ e. cc (votes-read (configCheck c) e (c .incoming), votes-read (configCheck c) e (c .outgoing)))
+  joint-verdict-rows c = answer-rows verdict.Refused (configCheck c) (λ e. cc (votes-read (configCheck c) e (c .incoming), votes-read (configCheck c) e (c .outgoing)))

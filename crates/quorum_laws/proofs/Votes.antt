@@ -17,6 +17,7 @@ use Rattle.quorum.specs.declared.VoteResult.the-variants as result
 use Rattle.quorum.specs.declared.rows.Vote.{Vote}
 use Rattle.quorum.specs.declared.rows.Vote.the-variants as vote
 use Rattle.quorum_laws.specs.JointRule.{Wins, Loses}
+use Rattle.units.proofs.Cond.{both-ends}
 use Rattle.units.proofs.Never.{never}
 
 -- However it ends, yes has at least those that said so, and at most those and the missing.
@@ -66,12 +67,10 @@ all-yes (vote.No ∷ votes) = all-yes votes
 
 -- What the computation leaves open once one of its two tests is known.
 not-won : (b : Bool) → cond b result.Pending result.Lost ≡ result.Won → ⊥
-not-won true e = never cc
-not-won false e = never cc
+not-won b = both-ends (λ r. r ≡ result.Won → ⊥) b (λ e. never cc) (λ e. never cc)
 
 not-lost : (b : Bool) → cond b result.Won result.Pending ≡ result.Lost → ⊥
-not-lost true e = never cc
-not-lost false e = never cc
+not-lost b = both-ends (λ r. r ≡ result.Lost → ⊥) b (λ e. never cc) (λ e. never cc)
 
 -- Whatever won and lost amount to, pending is neither.
 module _ {W L : Type 0} where
@@ -81,13 +80,7 @@ module _ {W L : Type 0} where
   neither result.Won w l n = absurd (n .0 (w refl))
 
   pub pending-if-neither : (r : VoteResult) → (r ≡ result.Won) ↔ W → (r ≡ result.Lost) ↔ L → (r ≡ result.Pending) ↔ ((¬ W) × (¬ L))
-  pending-if-neither r won lost = ((λ e. ((λ w. not-both (won .1 w) e), (λ l. not-both-lost (lost .1 l) e))), neither r (won .0) (lost .0))
-    where
-      not-both : r ≡ result.Won → r ≡ result.Pending → ⊥
-      not-both a b = never cc
-
-      not-both-lost : r ≡ result.Lost → r ≡ result.Pending → ⊥
-      not-both-lost a b = never cc
+  pending-if-neither r won lost = ((λ e. ((λ w. never (cc (won .1 w))), (λ l. never (cc (lost .1 l))))), neither r (won .0) (lost .0))
 
 module _ (votes : List Vote) (some : 0 < length votes) where
   somebody : eqb (length votes) 0 ≡ false

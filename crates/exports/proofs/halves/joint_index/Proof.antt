@@ -1,14 +1,17 @@
 -- `joint_index` meets its contract: the checks, and then what both halves say.
 use borrow.Author.Needs.{needs}
+use Prim.Native.Nat.{_≤_}
 use mathlib.Core.Path.{_≡_, sym, _∙_}
+use lib.ListN.{length}
 use Rattle.units.specs.Refusals.{bothChecks}
 use Rattle.units.specs.declared.Check.the-variants as check
+use Rattle.units.proofs.Checks.{checks-made, handed-on}
+use Rattle.quorum.specs.Limits.{voterLimit}
 use Rattle.quorum.specs.Rows.{rowsCheck}
-use Rattle.quorum.specs.Joint.{configCheck}
-use Rattle.quorum.proofs.Checks.{handed-on}
-use Rattle.quorum.proofs.Answers.{checks-made}
+use Rattle.quorum.specs.Joint.{configCheck, jointIndex}
+use Rattle.quorum.proofs.Answers.{index-refused, index-at}
 use Rattle.exports.specs.Rows.{peersFrom, configFrom}
-use Rattle.exports.proofs.Asked.{joint-refused, incoming-few, outgoing-few, joint-at}
+use Rattle.exports.proofs.Asked.{acks-read, incoming-few, outgoing-few}
 use Rattle.exports.proofs.halves.joint_index.Statement.{statement}
 use Rattle.exports.proofs.halves.joint_index.Tie as tie
 
@@ -26,6 +29,12 @@ asked c = c .before .before
 
 fine : (c : tie.After-enum-told) → bothChecks (configCheck (configFrom (start (asked c) .args .incoming .now) (start (asked c) .args .outgoing .now))) (rowsCheck (peersFrom (start (asked c) .args .rows .now))) ≡ check.Fine
 fine c = sym (made (asked c)) ∙ c .enum-told .given .1
+
+first-few : (c : tie.After-enum-told) → length (start (asked c) .args .incoming .now) ≤ voterLimit
+first-few c = incoming-few (start (asked c) .args .incoming .now) (start (asked c) .args .outgoing .now) (start (asked c) .args .rows .now) (fine c)
+
+second-few : (c : tie.After-enum-told) → length (start (asked c) .args .outgoing .now) ≤ voterLimit
+second-few c = outgoing-few (start (asked c) .args .incoming .now) (start (asked c) .args .outgoing .now) (start (asked c) .args .rows .now) (fine c)
 
 ids-checked-requires : tie.Need-ids-checked-requires
 ids-checked-requires c κs = search needs
@@ -52,26 +61,25 @@ refusal-requires : tie.Need-refusal-requires
 refusal-requires c κs = search needs
 
 returns : tie.Need-returns
-returns c =
-    let told = c .before .before .before in
-    joint-refused (start told .args .incoming .now) (start told .args .outgoing .now) (start told .args .rows .now) (c .refusal .result)
-    (handed-on _ _ _ _ (made told) (c .before .enum-told2 .given .1) (c .refusal .ensures))
+unfolding jointIndex
+returns c = index-refused _ _ (c .refusal .result) (handed-on _ _ _ _ (made (c .before .before .before)) (c .before .enum-told2 .given .1) (c .refusal .ensures))
 
 half-index-requires : tie.Need-half-index-requires
-half-index-requires c κs = incoming-few (start (asked c) .args .incoming .now) (start (asked c) .args .outgoing .now) (start (asked c) .args .rows .now) (fine c)
+half-index-requires c κs = first-few c
 
 half-index-requires-2 : tie.Need-half-index-requires-2
-half-index-requires-2 c κs = let passed = c .before in outgoing-few (start (asked passed) .args .incoming .now) (start (asked passed) .args .outgoing .now) (start (asked passed) .args .rows .now) (fine passed)
+half-index-requires-2 c κs = second-few (c .before)
 
 joined-requires : tie.Need-joined-requires
 joined-requires c κs = search needs
 
 returns-2 : tie.Need-returns-2
+unfolding jointIndex
 returns-2 c =
     let passed = c .before .before .before in
-    let told = asked passed in
-    joint-at (start told .args .incoming .now) (start told .args .outgoing .now) (start told .args .rows .now) (fine passed) (c .before .before .half-index .result) (c .before .half-index2 .result) (c .joined .result)
-    (c .before .before .half-index .ensures) (c .before .half-index2 .ensures) (c .joined .ensures)
+    let told = start (asked passed) in
+    index-at _ _ (c .joined .result) (fine passed)
+    (c .joined .ensures ∙ cc (c .before .before .half-index .ensures ∙ acks-read (told .args .rows .now) (told .args .incoming .now) (first-few passed), c .before .half-index2 .ensures ∙ acks-read (told .args .rows .now) (told .args .outgoing .now) (second-few passed)))
 
 pub joint-index-spec : {M : Type 1} → statement M
 joint-index-spec =

@@ -1,14 +1,17 @@
 -- `joint_verdict` meets its contract: the checks, and then what both halves say.
 use borrow.Author.Needs.{needs}
+use Prim.Native.Nat.{_≤_}
 use mathlib.Core.Path.{_≡_, sym, _∙_}
+use lib.ListN.{length}
 use Rattle.units.specs.Refusals.{bothChecks}
 use Rattle.units.specs.declared.Check.the-variants as check
+use Rattle.units.proofs.Checks.{checks-made, handed-on}
+use Rattle.quorum.specs.Limits.{voterLimit}
 use Rattle.quorum.specs.Rows.{rowsCheck}
-use Rattle.quorum.specs.Joint.{configCheck}
-use Rattle.quorum.proofs.Checks.{handed-on}
-use Rattle.quorum.proofs.Answers.{checks-made}
+use Rattle.quorum.specs.Joint.{configCheck, jointVerdict}
+use Rattle.quorum.proofs.Answers.{result-refused, result-stands}
 use Rattle.exports.specs.Rows.{peersFrom, configFrom}
-use Rattle.exports.proofs.Asked.{verdict-refused, incoming-few, outgoing-few, verdict-stands}
+use Rattle.exports.proofs.Asked.{votes-read, incoming-few, outgoing-few}
 use Rattle.exports.proofs.halves.joint_verdict.Statement.{statement}
 use Rattle.exports.proofs.halves.joint_verdict.Tie as tie
 
@@ -26,6 +29,12 @@ asked c = c .before .before
 
 fine : (c : tie.After-enum-told) → bothChecks (configCheck (configFrom (start (asked c) .args .incoming .now) (start (asked c) .args .outgoing .now))) (rowsCheck (peersFrom (start (asked c) .args .rows .now))) ≡ check.Fine
 fine c = sym (made (asked c)) ∙ c .enum-told .given .1
+
+first-few : (c : tie.After-enum-told) → length (start (asked c) .args .incoming .now) ≤ voterLimit
+first-few c = incoming-few (start (asked c) .args .incoming .now) (start (asked c) .args .outgoing .now) (start (asked c) .args .rows .now) (fine c)
+
+second-few : (c : tie.After-enum-told) → length (start (asked c) .args .outgoing .now) ≤ voterLimit
+second-few c = outgoing-few (start (asked c) .args .incoming .now) (start (asked c) .args .outgoing .now) (start (asked c) .args .rows .now) (fine c)
 
 ids-checked-requires : tie.Need-ids-checked-requires
 ids-checked-requires c κs = search needs
@@ -52,26 +61,25 @@ refusal-requires : tie.Need-refusal-requires
 refusal-requires c κs = search needs
 
 returns : tie.Need-returns
-returns c =
-    let told = c .before .before .before in
-    verdict-refused (start told .args .incoming .now) (start told .args .outgoing .now) (start told .args .rows .now) (c .refusal .result)
-    (handed-on _ _ _ _ (made told) (c .before .enum-told2 .given .1) (c .refusal .ensures))
+unfolding jointVerdict
+returns c = result-refused _ _ (c .refusal .result) (handed-on _ _ _ _ (made (c .before .before .before)) (c .before .enum-told2 .given .1) (c .refusal .ensures))
 
 half-result-requires : tie.Need-half-result-requires
-half-result-requires c κs = incoming-few (start (asked c) .args .incoming .now) (start (asked c) .args .outgoing .now) (start (asked c) .args .rows .now) (fine c)
+half-result-requires c κs = first-few c
 
 half-result-requires-2 : tie.Need-half-result-requires-2
-half-result-requires-2 c κs = let passed = c .before in outgoing-few (start (asked passed) .args .incoming .now) (start (asked passed) .args .outgoing .now) (start (asked passed) .args .rows .now) (fine passed)
+half-result-requires-2 c κs = second-few (c .before)
 
 joint-result-requires : tie.Need-joint-result-requires
 joint-result-requires c κs = search needs
 
 returns-2 : tie.Need-returns-2
+unfolding jointVerdict
 returns-2 c =
     let passed = c .before .before .before in
-    let told = asked passed in
-    verdict-stands (start told .args .incoming .now) (start told .args .outgoing .now) (start told .args .rows .now) (fine passed) (c .before .before .half-result .result) (c .before .half-result2 .result) (c .joint-result .result)
-    (c .before .before .half-result .ensures) (c .before .half-result2 .ensures) (c .joint-result .ensures)
+    let told = start (asked passed) in
+    result-stands _ _ (c .joint-result .result) (fine passed)
+    (c .joint-result .ensures ∙ cc (c .before .before .half-result .ensures ∙ votes-read (told .args .rows .now) (told .args .incoming .now) (first-few passed), c .before .half-result2 .ensures ∙ votes-read (told .args .rows .now) (told .args .outgoing .now) (second-few passed)))
 
 pub joint-verdict-spec : {M : Type 1} → statement M
 joint-verdict-spec =

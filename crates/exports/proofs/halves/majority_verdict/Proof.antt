@@ -1,14 +1,18 @@
 -- `majority_verdict` meets its contract: the checks, and then what the one half says.
 use borrow.Author.Needs.{needs}
+use Prim.Native.Nat.{_≤_}
 use mathlib.Core.Path.{_≡_, sym, _∙_}
+use lib.ListN.{length}
 use Rattle.units.specs.Refusals.{bothChecks}
 use Rattle.units.specs.declared.Check.the-variants as check
+use Rattle.units.proofs.Checks.{checks-made, handed-on}
 use Rattle.quorum.specs.Rows.{rowsCheck}
+use Rattle.quorum.specs.Limits.{voterLimit}
 use Rattle.quorum.specs.Voters.{votersCheck, setOf}
-use Rattle.quorum.proofs.Checks.{handed-on}
-use Rattle.quorum.proofs.Answers.{checks-made}
+use Rattle.quorum.specs.Majority.{voteResult}
+use Rattle.quorum.proofs.Answers.{result-refused, result-stands}
 use Rattle.exports.specs.Rows.{peersFrom}
-use Rattle.exports.proofs.Asked.{result-refused, voters-few, result-stands}
+use Rattle.exports.proofs.Asked.{votes-read, voters-few}
 use Rattle.exports.proofs.halves.majority_verdict.Statement.{statement}
 use Rattle.exports.proofs.halves.majority_verdict.Tie as tie
 
@@ -24,6 +28,9 @@ asked c = c .before .before
 
 fine : (c : tie.After-enum-told) → bothChecks (votersCheck (setOf (start (asked c) .args .voters .now))) (rowsCheck (peersFrom (start (asked c) .args .rows .now))) ≡ check.Fine
 fine c = sym (made (asked c)) ∙ c .enum-told .given .1
+
+few : (c : tie.After-enum-told) → length (start (asked c) .args .voters .now) ≤ voterLimit
+few c = voters-few (start (asked c) .args .voters .now) (start (asked c) .args .rows .now) (fine c)
 
 ids-checked-requires : tie.Need-ids-checked-requires
 ids-checked-requires c κs = search needs
@@ -44,17 +51,17 @@ refusal-requires : tie.Need-refusal-requires
 refusal-requires c κs = search needs
 
 returns : tie.Need-returns
-returns c =
-    let told = c .before .before .before in
-    result-refused (start told .args .voters .now) (start told .args .rows .now) (c .refusal .result) (handed-on _ _ _ _ (made told) (c .before .enum-told2 .given .1) (c .refusal .ensures))
+unfolding voteResult
+returns c = result-refused _ _ (c .refusal .result) (handed-on _ _ _ _ (made (c .before .before .before)) (c .before .enum-told2 .given .1) (c .refusal .ensures))
 
 half-result-requires : tie.Need-half-result-requires
-half-result-requires c κs = voters-few (start (asked c) .args .voters .now) (start (asked c) .args .rows .now) (fine c)
+half-result-requires c κs = few c
 
 returns-2 : tie.Need-returns-2
+unfolding voteResult
 returns-2 c =
-    let told = asked (c .before) in
-    result-stands (start told .args .voters .now) (start told .args .rows .now) (fine (c .before)) (c .half-result .result) (c .half-result .ensures)
+    let told = start (asked (c .before)) in
+    result-stands _ _ (c .half-result .result) (fine (c .before)) (c .half-result .ensures ∙ votes-read (told .args .rows .now) (told .args .voters .now) (few (c .before)))
 
 pub majority-verdict-spec : {M : Type 1} → statement M
 majority-verdict-spec =

@@ -1,8 +1,7 @@
 -- `rows_checked` meets its contract: each return rewrites with the tests that led there.
 use borrow.Author.Needs.{needs}
-use borrow.Author.Tests.{le-leb, lt-leb}
 use native.Mathlib.Omega.{arith}
-use mathlib.Core.Path.{_≡_, sym, _∙_}
+use mathlib.Core.Path.{_≡_, sym, ap, _∙_}
 use mathlib.Core.Bool.{Bool, true, false}
 use mathlib.Core.List.{List}
 use Prim.Native.Nat.{ℕ, _/_, _≤_, _<_}
@@ -12,6 +11,7 @@ use Rattle.units.specs.declared.Check.the-variants as check
 use Rattle.quorum.specs.Limits.{rowLimit}
 use Rattle.quorum.specs.Ids.{distinct, fineIf}
 use Rattle.quorum.specs.Rows.{rowsCheck}
+use Rattle.quorum.proofs.Checks.{over-limit, in-limit}
 use Rattle.exports.specs.Rows.{rowLength, peersFrom, rowIds}
 use Rattle.exports.proofs.RowWords.{rows-count}
 use Rattle.exports.proofs.halves.rows_checked.Statement.{statement}
@@ -19,10 +19,10 @@ use Rattle.exports.proofs.halves.rows_checked.Tie as tie
 
 module _ (words : List ℕ) where
   too-many : rowLimit < length words / rowLength → check.Refused brokenSet ≡ rowsCheck (peersFrom words)
-  too-many h = let many : rowLimit < length (peersFrom words) = omega (arith, rows-count words) in rw (lt-leb (length (peersFrom words)) rowLimit many)
+  too-many h = sym (over-limit (length (peersFrom words)) rowLimit (rowIds words) (omega (arith, rows-count words)))
 
   checked : length words / rowLength ≤ rowLimit → (b : Bool) → b ≡ distinct (rowIds words) → fineIf b ≡ rowsCheck (peersFrom words)
-  checked h b e = let few : length (peersFrom words) ≤ rowLimit = omega (arith, rows-count words) in rw (le-leb (length (peersFrom words)) rowLimit few, e)
+  checked h b e = ap fineIf e ∙ sym (in-limit (length (peersFrom words)) rowLimit (rowIds words) (omega (arith, rows-count words)))
 
 returns : tie.Need-returns
 returns c = too-many (c .before .before .args .words .now) (c .if1 .taken)

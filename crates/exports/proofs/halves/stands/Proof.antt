@@ -6,8 +6,9 @@ use mathlib.Core.List.{List}
 use native.Mathlib.Omega.{arith}
 use lib.ListN.{length, drop, getD}
 use borrow.Author.Needs.{needs}
-use Rattle.quorum.specs.Ids.{position, has}
-use Rattle.quorum.proofs.IdLaws.{has-here, has-next}
+use borrow.Author.Tests.{eq-eqb, ne-eqb}
+use Rattle.quorum.specs.Ids.{has}
+use Rattle.quorum.proofs.IdLaws.{has-none, has-cons}
 use Rattle.exports.specs.Rows.{rowLength, rowIds}
 use Rattle.exports.proofs.RowWords.{ids-next, ids-end}
 use Rattle.exports.proofs.halves.stands.Statement.{statement}
@@ -15,14 +16,13 @@ use Rattle.exports.proofs.halves.stands.Tie as tie
 
 module _ (words : List ℕ) (id at : ℕ) where
   here : at + rowLength ≤ length words → getD words at 0 ≡ id → has id (rowIds (drop at words)) ≡ true
-  here h e = ap (has id) (ids-next words at h) ∙ has-here id (getD words at 0) (rowIds (drop (at + rowLength) words)) e
+  here h e = ap (has id) (ids-next words at h) ∙ has-cons id (getD words at 0) (rowIds (drop (at + rowLength) words)) ∙ rw (eq-eqb (getD words at 0) id e)
 
   further : at + rowLength ≤ length words → (getD words at 0 ≡ id → ⊥) → has id (rowIds (drop at words)) ≡ has id (rowIds (drop (at + rowLength) words))
-  further h e = ap (has id) (ids-next words at h) ∙ has-next id (getD words at 0) (rowIds (drop (at + rowLength) words)) e
+  further h e = ap (has id) (ids-next words at h) ∙ has-cons id (getD words at 0) (rowIds (drop (at + rowLength) words)) ∙ rw (ne-eqb (getD words at 0) id e)
 
   nowhere : length words < at + rowLength → has id (rowIds (drop at words)) ≡ false
-  unfolding has position
-  nowhere h = ap (has id) (ids-end words at h)
+  nowhere h = ap (has id) (ids-end words at h) ∙ has-none id
 
 abbrev Inv-loop : tie.InvT-loop
 Inv-loop words id at₀ at = (at ≤ length words) × (has id (rowIds (drop at words)) ≡ has id (rowIds words))

@@ -1,26 +1,21 @@
 -- `checked` meets its contract: each return rewrites with the tests that led there.
 use borrow.Author.Needs.{needs}
-use borrow.Author.Tests.{le-leb, lt-leb}
-use Prim.Native.Nat.{ℕ, _≤_, _<_}
-use mathlib.Core.Path.{_≡_, sym, _∙_}
+use Prim.Native.Nat.{ℕ, _≤_}
+use mathlib.Core.Path.{_≡_, sym, ap, _∙_}
 use mathlib.Core.Bool.{Bool, true, false}
 use mathlib.Core.List.{List}
 use lib.ListN.{length, take}
 use lib.Seq.{length-take-le}
 use Rattle.quorum.specs.Ids.{fineIf, checkOf, distinct}
-use Rattle.units.specs.Refusals.{brokenSet}
-use Rattle.units.specs.declared.Check.the-variants as check
+use Rattle.quorum.proofs.Checks.{over-limit, in-limit}
 use Rattle.quorum.proofs.ids.checked.Statement.{statement}
 use Rattle.quorum.proofs.ids.checked.Tie as tie
 
-over : (s : List ℕ) (n : ℕ) → length s < n → check.Refused brokenSet ≡ checkOf s n
-over s n h = rw (lt-leb n (length s) h)
-
 fine : (s : List ℕ) (n : ℕ) (b : Bool) → n ≤ length s → b ≡ distinct (take n s) → fineIf b ≡ checkOf s n
-fine s n b h e = rw (le-leb n (length s) h, e)
+fine s n b h e = ap fineIf e ∙ sym (in-limit n (length s) (take n s) h)
 
 returns : tie.Need-returns
-returns c = over (c .before .before .args .ids .now) (c .before .before .args .count) (c .if1 .taken)
+returns c = sym (over-limit _ _ _ (c .if1 .taken))
 
 slice-aggregate-distinct : tie.Need-slice-aggregate-distinct
 slice-aggregate-distinct c = sym (length-take-le (c .before .before .before .args .count) (c .before .before .before .args .ids .now) (search needs))

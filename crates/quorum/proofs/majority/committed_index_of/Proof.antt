@@ -11,8 +11,10 @@ use Rattle.units.specs.declared.Check.the-variants as check
 use Rattle.quorum.specs.Limits.{voterLimit}
 use Rattle.quorum.specs.Rows.{plainCheck}
 use Rattle.quorum.specs.Voters.{votersCheck}
-use Rattle.quorum.proofs.Checks.{handed-on, first-fine, ids-held, values-held, voters-within}
-use Rattle.quorum.proofs.Answers.{checks-made, index-refused, index-at}
+use Rattle.quorum.specs.Majority.{plainIndex}
+use Rattle.units.proofs.Checks.{both-fine, checks-made, handed-on}
+use Rattle.quorum.proofs.Checks.{ids-held, values-held, voters-within}
+use Rattle.quorum.proofs.Answers.{index-refused, index-at}
 
 abbrev Asked : Type 0
 Asked = tie.After-and
@@ -31,7 +33,7 @@ fine : (c : Passed) → bothChecks (votersCheck (start (c .before .before) .args
 fine c = sym (made (c .before .before)) ∙ c .enum-told .given .1
 
 voters-fit : (c : Passed) → start (c .before .before) .args .voters .count ≤ voterLimit
-voters-fit c = voters-within (start (c .before .before) .args .voters) (first-fine (votersCheck (start (c .before .before) .args .voters)) (plainCheck (start (c .before .before) .args .rows)) (fine c))
+voters-fit c = voters-within (start (c .before .before) .args .voters) (both-fine (votersCheck (start (c .before .before) .args .voters)) (plainCheck (start (c .before .before) .args .rows)) .0 (fine c) .0)
 
 ids-fit : (c : Passed) → start (c .before .before) .args .rows .count ≤ length (start (c .before .before) .args .rows .ids)
 ids-fit c = ids-held (votersCheck (start (c .before .before) .args .voters)) (start (c .before .before) .args .rows) (start (c .before .before) .good .1 .0) (fine c)
@@ -58,7 +60,8 @@ refusal-requires : tie.Need-refusal-requires
 refusal-requires c κs = search needs
 
 returns : tie.Need-returns
-returns c = let asked = c .before .before .before in index-refused (start asked .args .voters) (start asked .args .rows) (c .refusal .result) (handed-on _ _ _ _ (made asked) (c .before .enum-told2 .given .1) (c .refusal .ensures))
+unfolding plainIndex
+returns c = index-refused _ _ (c .refusal .result) (handed-on _ _ _ _ (made (c .before .before .before)) (c .before .enum-told2 .given .1) (c .refusal .ensures))
 
 array-share-prefix-ids : tie.Need-array-share-prefix-ids
 array-share-prefix-ids c = ids-fit (c .before .before)
@@ -76,7 +79,8 @@ committed-index-requires : tie.Need-committed-index-requires
 committed-index-requires c κs = voters-fit (c .before .before .before .before)
 
 returns-2 : tie.Need-returns-2
-returns-2 c = let asked = c .before .before .before .before .before .before .before in index-at (start asked .args .voters) (start asked .args .rows) (c .committed-index .result) (fine (c .before .before .before .before .before)) (c .committed-index .ensures)
+unfolding plainIndex
+returns-2 c = index-at _ _ (c .committed-index .result) (fine (c .before .before .before .before .before)) (c .committed-index .ensures)
 
 pub committed-index-of-spec : {M : Type 1} → statement M
 committed-index-of-spec =

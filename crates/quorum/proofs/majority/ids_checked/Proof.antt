@@ -1,29 +1,23 @@
 -- `ids_checked` meets its contract: too many ids, or what the check of them all says.
 use borrow.Author.Needs.{needs}
-use borrow.Author.Tests.{le-leb, lt-leb}
 use native.Mathlib.Omega.{arith}
-use mathlib.Core.Path.{_≡_, _∙_}
+use mathlib.Core.Path.{_≡_, sym, _∙_}
 use mathlib.Core.List.{List}
-use Prim.Native.Nat.{ℕ, _≤_, _<_}
-use lib.ListN.{length}
+use Prim.Native.Nat.{ℕ, _≤_}
+use lib.ListN.{length, take}
 use lib.Seq.{take-length}
-use Rattle.units.specs.Refusals.{brokenSet}
-use Rattle.units.specs.declared.Check.the-variants as check
 use Rattle.quorum.specs.Limits.{voterLimit}
 use Rattle.quorum.specs.Ids.{checkOf}
 use Rattle.quorum.specs.Voters.{votersCheck, setOf}
-use Rattle.quorum.proofs.Checks.{set-check}
+use Rattle.quorum.proofs.Checks.{over-limit, in-limit, set-check}
 use Rattle.quorum.proofs.majority.ids_checked.Statement.{statement}
 use Rattle.quorum.proofs.majority.ids_checked.Tie as tie
 
-too-many : (ids : List ℕ) → voterLimit < length ids → check.Refused brokenSet ≡ votersCheck (setOf ids)
-too-many ids h = rw (lt-leb (length ids) voterLimit h)
-
 few : (ids : List ℕ) → length ids ≤ voterLimit → checkOf ids (length ids) ≡ votersCheck (setOf ids)
-few ids h = rw (set-check ids, le-leb (length ids) voterLimit h, le-leb (length ids) (length ids) (omega arith), take-length ids)
+few ids h = in-limit (length ids) (length ids) (take (length ids) ids) (omega arith) ∙ rw (take-length ids) (sym (set-check ids ∙ in-limit (length ids) voterLimit ids h))
 
 returns : tie.Need-returns
-returns c = too-many (c .before .before .args .ids .now) (c .if1 .taken)
+returns c = sym (over-limit _ _ _ (c .if1 .taken))
 
 checked-requires : tie.Need-checked-requires
 checked-requires c κs = search needs

@@ -11,8 +11,10 @@ use Rattle.units.specs.declared.Check.the-variants as check
 use Rattle.quorum.specs.Limits.{voterLimit}
 use Rattle.quorum.specs.Rows.{plainCheck}
 use Rattle.quorum.specs.Voters.{votersCheck}
-use Rattle.quorum.proofs.Checks.{handed-on, first-fine, ids-held, values-held, voters-within}
-use Rattle.quorum.proofs.Answers.{checks-made, result-refused, result-stands}
+use Rattle.quorum.specs.Majority.{plainResult}
+use Rattle.units.proofs.Checks.{both-fine, checks-made, handed-on}
+use Rattle.quorum.proofs.Checks.{ids-held, values-held, voters-within}
+use Rattle.quorum.proofs.Answers.{result-refused, result-stands}
 
 abbrev Asked : Type 0
 Asked = tie.After-and
@@ -31,7 +33,7 @@ fine : (c : Passed) → bothChecks (votersCheck (start (c .before .before) .args
 fine c = sym (made (c .before .before)) ∙ c .enum-told .given .1
 
 voters-fit : (c : Passed) → start (c .before .before) .args .voters .count ≤ voterLimit
-voters-fit c = voters-within (start (c .before .before) .args .voters) (first-fine (votersCheck (start (c .before .before) .args .voters)) (plainCheck (start (c .before .before) .args .rows)) (fine c))
+voters-fit c = voters-within (start (c .before .before) .args .voters) (both-fine (votersCheck (start (c .before .before) .args .voters)) (plainCheck (start (c .before .before) .args .rows)) .0 (fine c) .0)
 
 ids-fit : (c : Passed) → start (c .before .before) .args .rows .count ≤ length (start (c .before .before) .args .rows .ids)
 ids-fit c = ids-held (votersCheck (start (c .before .before) .args .voters)) (start (c .before .before) .args .rows) (start (c .before .before) .good .1 .0) (fine c)
@@ -58,7 +60,8 @@ refusal-requires : tie.Need-refusal-requires
 refusal-requires c κs = search needs
 
 returns : tie.Need-returns
-returns c = let asked = c .before .before .before in result-refused (start asked .args .voters) (start asked .args .rows) (c .refusal .result) (handed-on _ _ _ _ (made asked) (c .before .enum-told2 .given .1) (c .refusal .ensures))
+unfolding plainResult
+returns c = result-refused _ _ (c .refusal .result) (handed-on _ _ _ _ (made (c .before .before .before)) (c .before .enum-told2 .given .1) (c .refusal .ensures))
 
 array-share-prefix-ids : tie.Need-array-share-prefix-ids
 array-share-prefix-ids c = ids-fit (c .before .before)
@@ -76,7 +79,8 @@ vote-result-requires : tie.Need-vote-result-requires
 vote-result-requires c κs = voters-fit (c .before .before .before .before)
 
 returns-2 : tie.Need-returns-2
-returns-2 c = let asked = c .before .before .before .before .before .before .before in result-stands (start asked .args .voters) (start asked .args .rows) (c .vote-result .result) (fine (c .before .before .before .before .before)) (c .vote-result .ensures)
+unfolding plainResult
+returns-2 c = result-stands _ _ (c .vote-result .result) (fine (c .before .before .before .before .before)) (c .vote-result .ensures)
 
 pub vote-result-of-spec : {M : Type 1} → statement M
 vote-result-of-spec =

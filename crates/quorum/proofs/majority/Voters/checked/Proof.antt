@@ -6,9 +6,7 @@ use Rattle.quorum.proofs.majority.Voters.checked.Statement.{statement}
 use Rattle.quorum.proofs.majority.Voters.checked.Tie as tie
 use Rattle.quorum.proofs.Sizes.{voters-length}
 use lib.ListN.{take}
-use lib.Dec.{leb}
-use mathlib.Core.Bool.{_&&_}
-use Rattle.quorum.specs.Ids.{distinct, fineIf}
+use Rattle.quorum.specs.Ids.{fewDistinct, fineIf}
 
 slice-aggregate-checked : tie.Need-slice-aggregate-checked
 slice-aggregate-checked c = search needs
@@ -17,7 +15,7 @@ checked-requires : tie.Need-checked-requires
 checked-requires c κs = search needs
 
 returns : tie.Need-returns
-returns c = let start = c .before .before .before in c .checked .ensures ∙ ap (λ (n : ℕ). fineIf (leb (start .args .self .count) n && distinct (take (start .args .self .count) (start .args .self .ids)))) (voters-length (start .args .self) (start .good .0))
+returns c = let start = c .before .before .before in c .checked .ensures ∙ ap (λ (n : ℕ). fineIf (fewDistinct (start .args .self .count) n (take (start .args .self .count) (start .args .self .ids)))) (voters-length (start .args .self) (start .good .0))
 
 pub checked-spec : {M : Type 1} → statement M
 checked-spec = tie.close (tie.spec slice-aggregate-checked checked-requires returns)

@@ -1,37 +1,30 @@
 -- `Voters::new` meets its contract: what the check refuses, or the set of the ids.
-use mathlib.Core.Path.{_≡_, _∙_}
-use mathlib.Core.Bool.{Bool, true, false, _&&_}
+use mathlib.Core.Path.{_≡_, sym, _∙_}
 use mathlib.Core.List.{List}
 use Prim.Native.Nat.{ℕ}
 use lib.ListN.{length}
-use lib.Dec.{leb}
 use borrow.Author.Needs.{needs}
+use Rattle.units.specs.Refusals.{brokenSet}
 use Rattle.units.specs.declared.Check.{Check}
 use Rattle.units.specs.declared.Check.the-variants as check
+use Rattle.units.proofs.Cond.{past}
+use Rattle.units.proofs.Never.{never}
+use Rattle.units.proofs.Checks.{holds}
 use Rattle.quorum.specs.Limits.{voterLimit}
-use Rattle.quorum.specs.Ids.{distinct, fineIf}
-use Rattle.quorum.specs.Voters.{votersCheck, setOf, noVoters, madeIf, made}
+use Rattle.quorum.specs.Ids.{fewDistinct}
+use Rattle.quorum.specs.Voters.{votersCheck, setOf, noVoters, made}
 use Rattle.quorum.specs.declared.majority.Voters.{Voters}
 use Rattle.quorum.proofs.Checks.{set-check}
 use Rattle.quorum.proofs.majority.Voters.new.Statement.{statement}
 use Rattle.quorum.proofs.majority.Voters.new.Tie as tie
 
--- k is what the check answered, which b decided
-module _ (ids : List ℕ) (k : Check) where
-  refused-by : (b : Bool) (n : ℕ) → k ≡ fineIf b → k ≡ check.Refused n → record { check = k; set = noVoters } ≡ madeIf b ids
-  refused-by true n e f = cc
-  refused-by false n e f = rw e
+-- k is what the check answered
+module _ (ids : List ℕ) (k : Check) (answered : k ≡ votersCheck (setOf ids)) where
+  refused : (n : ℕ) → k ≡ check.Refused n → record { check = k; set = noVoters } ≡ made ids
+  refused n e = let no = past (fewDistinct (length ids) voterLimit ids) (λ f. never cc) (sym (answered ∙ set-check ids) ∙ e) in rw (no .0, e ∙ sym (no .1))
 
-  taken-by : (b : Bool) → k ≡ fineIf b → k ≡ check.Fine → (v : Voters) → v ≡ setOf ids → record { check = check.Fine; set = v } ≡ madeIf b ids
-  taken-by true e f v g = rw g
-  taken-by false e f v g = cc
-
-  module _ (answered : k ≡ votersCheck (setOf ids)) where
-    refused : (n : ℕ) → k ≡ check.Refused n → record { check = k; set = noVoters } ≡ made ids
-    refused n e = refused-by (leb (length ids) voterLimit && distinct ids) n (answered ∙ set-check ids) e
-
-    taken : k ≡ check.Fine → (v : Voters) → v ≡ setOf ids → record { check = check.Fine; set = v } ≡ made ids
-    taken e v f = taken-by (leb (length ids) voterLimit && distinct ids) (answered ∙ set-check ids) e v f
+  taken : k ≡ check.Fine → (v : Voters) → v ≡ setOf ids → record { check = check.Fine; set = v } ≡ made ids
+  taken e v f = rw (holds (fewDistinct (length ids) voterLimit ids) brokenSet (sym (answered ∙ set-check ids) ∙ e), f)
 
 ids-checked-requires : tie.Need-ids-checked-requires
 ids-checked-requires c κs = search needs
