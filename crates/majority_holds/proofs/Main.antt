@@ -13,7 +13,6 @@ use Rattle.units.specs.Refusals.{brokenState, brokenSet, bothChecks}
 use Rattle.units.specs.declared.Check.the-variants as check
 use Rattle.units.proofs.Never.{never}
 use Rattle.units.proofs.Checks.{both-fine, refused-not-fine}
-use Rattle.rules.specs.Count.{count}
 use Rattle.rules.specs.Log.{Entry, whole-list, Agree}
 use Rattle.rules.proofs.Count.{count-map}
 use Rattle.quorum.specs.Rows.{rowsCheck}

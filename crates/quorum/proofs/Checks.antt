@@ -14,7 +14,7 @@ use Rattle.units.specs.declared.Check.{Check}
 use Rattle.units.specs.declared.Check.the-variants as check
 use Rattle.units.specs.Refusals.{brokenSet, bothChecks}
 use Rattle.units.proofs.Checks.{holds, both-fine}
-use Rattle.rules.proofs.Count.{le-or-gt}
+use Rattle.units.proofs.Numbers.{below-or-not}
 use Rattle.quorum.specs.Limits.{voterLimit, rowLimit}
 use Rattle.quorum.specs.Ids.{distinct, fewDistinct, fineIf}
 use Rattle.quorum.specs.Rows.{idsOf, plainCheck}
@@ -46,7 +46,7 @@ module _ (count limit : ℕ) (ids : List ℕ) where
 -- Lists that are the same within the limit are checked alike.
 pub same-check : (count limit : ℕ) (ids others : List ℕ) → (count ≤ limit → ids ≡ others) → fineIf (fewDistinct count limit ids) ≡ fineIf (fewDistinct count limit others)
 same-check count limit ids others same =
-    ⊎-elim (λ h. ap (λ (xs : List ℕ). fineIf (fewDistinct count limit xs)) (same h)) (λ h. over-limit count limit ids h ∙ sym (over-limit count limit others h)) (le-or-gt count limit)
+    ⊎-elim (λ h. over-limit count limit ids h ∙ sym (over-limit count limit others h)) (λ h. ap (λ (xs : List ℕ). fineIf (fewDistinct count limit xs)) (same h)) (below-or-not limit count)
 
 pub voters-within : (v : Voters) → votersCheck v ≡ check.Fine → v .count ≤ voterLimit
 voters-within v e = within (v .count) voterLimit (votersOf v) e

@@ -13,8 +13,9 @@ use Rattle.units.specs.declared.Check.the-variants as check
 use Rattle.units.proofs.Cond.{either-end}
 use Rattle.units.proofs.Never.{never}
 use Rattle.units.proofs.Checks.{both-fine}
+use Rattle.units.proofs.Numbers.{below-or-not}
 use Rattle.rules.specs.Majority.{reached, falling}
-use Rattle.rules.proofs.Count.{le-or-gt, count-cons, one-at-least}
+use Rattle.rules.proofs.Count.{count-cons, one-at-least}
 use Rattle.rules.proofs.Majority.{reached-hit, Capped, Falls, falls-falling, length-falling}
 use Rattle.quorum.specs.Limits.{idLimit}
 use Rattle.quorum.specs.Ids.{has}
@@ -64,7 +65,7 @@ reached-has id (x ∷ xs) e =
     ⊎-elim (λ h. omega (arith, reached-hit id x xs (omega arith))) (λ h. omega (arith, reached-has id xs h, count-cons (leb id) x xs, one-at-least (leb id x) (reached id xs))) (head-or-behind id x xs e)
 
 at-most-cap : (x id : ℕ) (xs : List ℕ) → Capped x xs → has id xs ≡ true → id ≤ x
-at-most-cap x id xs c e = ⊎-elim (λ h. h) (λ h. omega (arith, c id h, reached-has id xs e)) (le-or-gt id x)
+at-most-cap x id xs c e = ⊎-elim (λ h. omega (arith, c id h, reached-has id xs e)) (λ h. h) (below-or-not x id)
 
 rises-last : (x : ℕ) (xs : List ℕ) → Rising xs → ((y : ℕ) → has y xs ≡ true → y < x) → Rising (xs ++ (x ∷ []))
 rises-last x [] r h = ((λ y e. absurd (nowhere y e)), tt)
@@ -80,11 +81,11 @@ rises-last x (y ∷ ys) r h = (above, rises-last x ys (r .1) (λ z e. h z (has-b
         (either (has z ys) (has z (x ∷ [])) (sym (has-append z ys (x ∷ [])) ∙ e))
 
 rises-one-more : (x : ℕ) (ids : List ℕ) → Rising ids → ((y : ℕ) → has y ids ≡ true → y ≤ x) → Rising (cond (has x ids) ids (ids ++ (x ∷ [])))
-rises-one-more x ids r h = either-end Rising (has x ids) (λ there. r) (λ new. rises-last x ids r (λ y g. other new y g (le-or-gt x y)))
+rises-one-more x ids r h = either-end Rising (has x ids) (λ there. r) (λ new. rises-last x ids r (λ y g. other new y g (below-or-not y x)))
   where
-    other : has x ids ≡ false → (y : ℕ) → has y ids ≡ true → (x ≤ y) ⊎ (y < x) → y < x
-    other new y g (inl l) = let q : y ≡ x = le-antisymm (h y g) l in never cc
-    other new y g (inr l) = l
+    other : has x ids ≡ false → (y : ℕ) → has y ids ≡ true → (y < x) ⊎ (x ≤ y) → y < x
+    other new y g (inl l) = l
+    other new y g (inr l) = let q : y ≡ x = le-antisymm (h y g) l in never cc
 
 rising-rises : (xs : List ℕ) → Falls xs → Rising (rising xs)
 unfolding rising

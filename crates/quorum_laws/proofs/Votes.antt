@@ -10,7 +10,7 @@ use lib.Dec.{eqb, leb}
 use borrow.Author.Tests.{le-leb, lt-leb, ne-eqb}
 use Rattle.rules.specs.Count.{count, Reordered}
 use Rattle.rules.specs.Majority.{quorum}
-use Rattle.rules.proofs.Count.{le-or-gt, length-reordered, count-reordered}
+use Rattle.rules.proofs.Count.{length-reordered, count-reordered}
 use Rattle.quorum.specs.Votes.{isYes, isMissing, resultOf, Ends, none, yea, nay, free, yesIn, Sure, Hopeless, jointResult}
 use Rattle.quorum.specs.declared.VoteResult.{VoteResult}
 use Rattle.quorum.specs.declared.VoteResult.the-variants as result
@@ -19,6 +19,7 @@ use Rattle.quorum.specs.declared.rows.Vote.the-variants as vote
 use Rattle.quorum_laws.specs.JointRule.{Wins, Loses}
 use Rattle.units.proofs.Cond.{both-ends}
 use Rattle.units.proofs.Never.{never}
+use Rattle.units.proofs.Numbers.{below-or-not}
 
 -- However it ends, yes has at least those that said so, and at most those and the missing.
 fewest : {votes : List Vote} {ends : List Bool} → Ends votes ends → count isYes votes ≤ yesIn ends
@@ -97,7 +98,7 @@ module _ (votes : List Vote) (some : 0 < length votes) where
 
   won-sure : resultOf votes ≡ result.Won → Sure votes
   won-sure e ends p =
-      ⊎-elim (λ h. omega (arith, fewest p)) (λ h. absurd (not-won (leb (quorum (length votes)) (count isYes votes + count isMissing votes)) (sym (below h) ∙ e))) (le-or-gt (quorum (length votes)) (count isYes votes))
+      ⊎-elim (λ h. absurd (not-won (leb (quorum (length votes)) (count isYes votes + count isMissing votes)) (sym (below h) ∙ e))) (λ h. omega (arith, fewest p)) (below-or-not (count isYes votes) (quorum (length votes)))
 
   hopeless-lost : Hopeless votes → resultOf votes ≡ result.Lost
   hopeless-lost h =
@@ -106,7 +107,7 @@ module _ (votes : List Vote) (some : 0 < length votes) where
 
   lost-hopeless : resultOf votes ≡ result.Lost → Hopeless votes
   lost-hopeless e ends p =
-      ⊎-elim (λ h. absurd (not-lost (leb (quorum (length votes)) (count isYes votes)) (sym (within-reach h) ∙ e))) (λ h. omega (arith, most p)) (le-or-gt (quorum (length votes)) (count isYes votes + count isMissing votes))
+      ⊎-elim (λ h. omega (arith, most p)) (λ h. absurd (not-lost (leb (quorum (length votes)) (count isYes votes)) (sym (within-reach h) ∙ e))) (below-or-not (count isYes votes + count isMissing votes) (quorum (length votes)))
 
   -- THE THEOREMS
   pub won-exactly-if-sure : (resultOf votes ≡ result.Won) ↔ Sure votes

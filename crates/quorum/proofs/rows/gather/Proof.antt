@@ -36,7 +36,6 @@ use denote.Struct.Laws as LL
 use denote.Triple.Statement.{Triple}
 use denote.Triple.Entry.{alive, onEntry}
 use denote.Triple.Table.{cited}
-use Rattle.rules.proofs.Count.{le-or-gt}
 use Rattle.quorum.specs.Limits.{rowLimit}
 use Rattle.quorum.specs.Ids.{padded}
 use Rattle.quorum.specs.Rows.{nobody, idOf, valueFor, gathered}
@@ -45,6 +44,7 @@ use Rattle.quorum.specs.declared.rows.Question.{Question}
 use Rattle.quorum.specs.declared.rows.Rows.{Rows}
 use Rattle.units.proofs.ByValue.{numbers, At, fits-at, made}
 use Rattle.units.proofs.Exact.{Exact, calls, Params, valued, shared, End, ends, meets}
+use Rattle.units.proofs.Numbers.{below-or-not}
 use Rattle.quorum.proofs.OverRows.{peers, questions, rows, Lent, reads-row, reads-value, takes-smaller, gathers}
 use Rattle.quorum.proofs.Padded.{length-padded, padded-none, filled-more, filled-all}
 use Rattle.quorum.proofs.Words.{words, holds, blank, blank-typed, words-are, stores-word}
@@ -229,7 +229,7 @@ module _ {M : Type 1} (𝓤 : URA M) (H : Heap 𝓤) (A : Atoms 𝓤) (W : Given
           move ! (1 ∷ []) $ drop ! $ by ! (ends 𝓤 H A gathers params W (κ, tt) (q, tt) tt (x, (s, tt)) (rows-at s ys (a .i)) _ (at-end s ys a l) (rows .makes 𝓤 H A W (rows-at s ys (a .i)) _ (are-rows (a .i) (wi .1) (wv .1))))))
 
       turns : (a : Turn ys) → Sq W (Inv a) (runs C Λ En code.Mir.turn-1 (anyQ (afterTurn 𝓤 H (Below 𝓤 H A (Nearer ys) Inv a) Left)))
-      turns a = ⊎-elim (leaves a) (more a) (le-or-gt (end ys) (a .i))
+      turns a = ⊎-elim (more a) (leaves a) (below-or-not (a .i) (end ys))
 
       looping : (a : Turn ys) → Sq W (Inv a) (runs C Λ En code.Mir.t-6 (atRet En Post))
       looping a = first ! $ blocks ! $ loops ! 𝓣 (Nearer ys) (Nearer-wf ys) Inv turns a
