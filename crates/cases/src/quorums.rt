@@ -15,6 +15,7 @@ use quorum::joint::JointConfig;
 use quorum::majority::Voters;
 use quorum::rows::Ack;
 use quorum::rows::Peer;
+use quorum::rows::Question;
 use quorum::rows::Rows;
 use quorum::rows::Vote;
 use units::Check;
@@ -80,40 +81,49 @@ fn ids(list: Ids) {
     text(b"\n");
 }
 
-// Rows with these acknowledgements, whose ids are 1, 2, 3 and so on.
-pub fn acking(acks: &[u64]) -> Table {
-    let mut table = Table::empty();
-    let mut i = 0;
-    while i < acks.len() {
-        let ack = Ack::At(Index(acks[i]));
-        i += 1;
-        table = table.with(Peer {
-            id: i as u64,
-            ack,
+// A vote as a number.
+const YES: u64 = 1;
+
+const NO: u64 = 0;
+
+// The row of an id that says this: an acknowledgement, or a vote.
+fn saying(question: Question, id: u64, said: u64) -> Peer {
+    match question {
+        Question::Index => Peer {
+            id,
+            ack: Ack::At(Index(said)),
             vote: Vote::Missing,
-        });
+        },
+        Question::Vote => Peer {
+            id,
+            ack: Ack::Missing,
+            vote: vote(said),
+        },
     }
-    table
 }
 
-fn vote(said: bool) -> Vote {
-    if said { Vote::Yes } else { Vote::No }
+fn vote(said: u64) -> Vote {
+    if said == YES { Vote::Yes } else { Vote::No }
 }
 
-// Rows with these votes.
-fn voting(votes: &[bool]) -> Table {
+// Rows that say these things, whose ids are 1, 2, 3 and so on.
+fn table(question: Question, said: &[u64]) -> Table {
     let mut table = Table::empty();
     let mut i = 0;
-    while i < votes.len() {
-        let said = vote(votes[i]);
+    while i < said.len() {
+        let word = said[i];
         i += 1;
-        table = table.with(Peer {
-            id: i as u64,
-            ack: Ack::Missing,
-            vote: said,
-        });
+        table = table.with(saying(question, i as u64, word));
     }
     table
+}
+
+pub fn acking(acks: &[u64]) -> Table {
+    table(Question::Index, acks)
+}
+
+fn voting(votes: &[u64]) -> Table {
+    table(Question::Vote, votes)
 }
 
 // The set of these ids.
@@ -149,24 +159,24 @@ pub fn joint_cases() {
 
 pub fn vote_cases() {
     text(b"P  four voters, two yes, one no: ");
-    verdict(majority::vote_result(voters(&[1, 2, 3, 4]), voting(&[true, true, false])));
+    verdict(majority::vote_result(voters(&[1, 2, 3, 4]), voting(&[YES, YES, NO])));
     text(b"P  four voters, two yes, two no: ");
-    verdict(majority::vote_result(voters(&[1, 2, 3, 4]), voting(&[true, true, false, false])));
+    verdict(majority::vote_result(voters(&[1, 2, 3, 4]), voting(&[YES, YES, NO, NO])));
 }
 
 fn answer_cases() {
     text(b"   acknowledged by no voters: ");
     committed(majority::committed_index(Voters::empty(), acking(&[5])));
     text(b"   four voters, three yes: ");
-    verdict(majority::vote_result(voters(&[1, 2, 3, 4]), voting(&[true, true, true])));
+    verdict(majority::vote_result(voters(&[1, 2, 3, 4]), voting(&[YES, YES, YES])));
     text(b"   votes of no voters: ");
-    verdict(majority::vote_result(Voters::empty(), voting(&[false])));
+    verdict(majority::vote_result(Voters::empty(), voting(&[NO])));
     text(b"   joint of two empty halves: ");
     committed(joint::committed_index(both(&[], &[]), acking(&[])));
     text(b"   won in one half, pending in the other: ");
-    verdict(joint::vote_result(both(&[1], &[2, 3]), voting(&[true, true])));
+    verdict(joint::vote_result(both(&[1], &[2, 3]), voting(&[YES, YES])));
     text(b"   won in one half, lost in the other: ");
-    verdict(joint::vote_result(both(&[1], &[2, 3]), voting(&[true, false])));
+    verdict(joint::vote_result(both(&[1], &[2, 3]), voting(&[YES, NO])));
 }
 
 fn set_cases() {
@@ -184,25 +194,11 @@ fn set_cases() {
     ids(both(&[3, 1], &[2]).clear().ids());
 }
 
-// Sets that no constructor makes: a repeated id, and one voter more than the set has room for.
-fn repeated() -> Voters {
-    let mut ids = [0u64; Voters::LIMIT];
-    ids[0] = 1;
-    ids[1] = 1;
-    Voters { ids, count: 2 }
-}
-
-fn too_many() -> Voters {
-    Voters {
-        ids: [0u64; Voters::LIMIT],
-        count: Voters::LIMIT + 1,
-    }
-}
-
+// A repeated id in the outgoing half.
 pub fn half_broken() -> JointConfig {
     JointConfig {
         incoming: Voters::empty(),
-        outgoing: repeated(),
+        outgoing: Voters::holding(&[1, 1]),
     }
 }
 
@@ -228,9 +224,9 @@ fn refusal_cases() {
     text(b"   a constructor handed an id twice: ");
     constructed(&[1, 1]);
     text(b"   a voter too many: ");
-    committed(majority::committed_index(too_many(), acking(&[1])));
+    committed(majority::committed_index(Voters::holding(&[0; Voters::LIMIT + 1]), acking(&[1])));
     text(b"   a repeated voter: ");
-    verdict(majority::vote_result(repeated(), voting(&[true])));
+    verdict(majority::vote_result(Voters::holding(&[1, 1]), voting(&[YES])));
     text(b"   a repeated voter in the outgoing half: ");
     committed(joint::committed_index(half_broken(), acking(&[1])));
     text(b"   no voters, a row too many: ");

@@ -31,14 +31,9 @@ use Rattle.raft_log.specs.declared.Changed.the-variants as changed
 use Rattle.raft_log.specs.declared.Decided.{Decided}
 use Rattle.raft_log.specs.declared.Decided.the-variants as decided
 use Rattle.raft_log.specs.declared.Looked.the-variants as looked
-use Rattle.raft_log.specs.declared.Looked.{Looked}
 use Rattle.raft_log.specs.declared.Placed.the-variants as placed
-use Rattle.raft_log.specs.declared.Placed.{Placed}
 use Rattle.raft_log.specs.declared.Told.the-variants as told
-use Rattle.raft_log.specs.declared.Told.{Told}
 use Rattle.raft_log.specs.declared.Info.the-variants as info
-use Rattle.raft_log.specs.declared.Info.{Info}
-use Rattle.raft_log.specs.declared.ByTerm.{ByTerm}
 use Rattle.raft_log.specs.declared.ByTerm.the-variants as byterm
 use Rattle.raft_log.specs.declared.Bounds.{Bounds}
 use Rattle.raft_log.specs.declared.Bounds.the-variants as bounds
@@ -48,10 +43,8 @@ use Rattle.quorum.specs.Rows.{idOf, rowsCheck}
 use Rattle.quorum.specs.Voters.{votersOf, votersCheck, setOf}
 use Rattle.quorum.specs.Majority.{indexUnless as committedUnless, resultUnless, committedIndex, voteResult}
 use Rattle.quorum.specs.Joint.{configCheck, isUnless as answerUnless, bothIds, listedUnless, jointIndex, jointVerdict, singleton, containsOf, idsAnswer}
-use Rattle.quorum.specs.declared.half.Half.{Half}
 use Rattle.quorum.specs.declared.Committed.the-variants as committed
 use Rattle.quorum.specs.declared.Verdict.the-variants as verdict
-use Rattle.quorum.specs.declared.VoteResult.{VoteResult}
 use Rattle.quorum.specs.declared.joint.Answer.the-variants as joint-answer
 use Rattle.quorum.specs.declared.joint.JointConfig.{JointConfig}
 use Rattle.quorum.specs.declared.majority.Voters.{Voters}
@@ -64,21 +57,17 @@ use Rattle.inflights.specs.declared.Answer.the-variants as window-answer
 use Rattle.inflights.specs.declared.Fullness.the-variants as fullness-is
 use Rattle.inflights.specs.declared.Counted.the-variants as count-is
 use Rattle.exports.specs.Words.{logFrom, Outcome, leaves, withStore, unlessShort}
-use Rattle.exports.specs.LogCalls.{appendedLeaves, extendedLeaves, changedLeaves, decidedLeaves, newLeaves, maybeAppendLeaves, appendLeaves, commitToLeaves, maybeCommitLeaves, appliedToLeaves, maybePersistLeaves, stableEntriesLeaves}
-use Rattle.exports.specs.Reads.{lookedLeaves, placedLeaves, toldLeaves, infoLeaves, byTermLeaves, boundsLeaves, termLeaves, firstIndexLeaves, lastIndexLeaves, lastTermLeaves, commitInfoLeaves, isUpToDateLeaves, findConflictByTermLeaves, sliceLeaves, entriesLeaves, nextEntriesSinceLeaves, hasNextEntriesSinceLeaves, Sound}
+use Rattle.exports.specs.LogCalls.{appendedLeaves, extendedLeaves, changedLeaves, decidedLeaves, newLogLeaves, maybeAppendLeaves, appendLeaves, commitToLeaves, maybeCommitLeaves, appliedToLeaves, maybePersistLeaves, stableEntriesLeaves}
+use Rattle.exports.specs.Reads.{lookedLeaves, placedLeaves, toldLeaves, infoLeaves, byTermLeaves, boundsLeaves, termLeaves, firstIndexLeaves, lastIndexLeaves, lastTermLeaves, commitInfoLeaves, isUpToDateLeaves, findConflictByTermLeaves, sliceLeaves, entriesLeaves, nextEntriesSinceLeaves, hasNextEntriesSinceLeaves, NamesHeld}
 use Rattle.exports.specs.Rows.{peersFrom, configFrom}
 use Rattle.exports.specs.QuorumCalls.{committedLeaves, verdictLeaves, answerLeaves, idsLeaves, majorityIndexLeaves, majorityResultLeaves, jointIndexLeaves, jointResultLeaves, singletonLeaves, containsLeaves, jointIdsLeaves, clearLeaves, votersRefusal, jointRefusal, rowsRefusal, leaderCommitLeaves}
-use Rattle.exports.specs.WindowCalls.{windowFrom, windowLeaves, fullnessLeaves, countedLeaves, changes, newLeaves as windowNewLeaves, setCapLeaves, addLeaves, freeToLeaves, freeFirstOneLeaves, resetLeaves, maybeFreeBufferLeaves, fullLeaves, countLeaves}
+use Rattle.exports.specs.WindowCalls.{windowFrom, windowLeaves, fullnessLeaves, countedLeaves, changes, newWindowLeaves, setCapLeaves, addLeaves, freeToLeaves, freeFirstOneLeaves, resetLeaves, maybeFreeBufferLeaves, fullLeaves, countLeaves}
+use Rattle.exports.specs.Results.{Tells}
 use Rattle.exports.proofs.Lengths.{by-length}
 use Rattle.exports.proofs.Parts.{slice-sound, entries-sound, next-sound}
 
--- The result tells what happened: other than 0, these slices are as they were; 0, what the call below said is no refusal.
-pub record Tells {A : Type 0} (refused : ℕ → A) (said : A) (slices : List (List ℕ)) (out : Outcome) : Type 0 where
-  pub keeps : (out .result ≡ 0 → ⊥) → out .slices ≡ slices
-  pub taken : out .result ≡ 0 → (n : ℕ) → said ≡ refused n → ⊥
-
 module _ {A : Type 0} {refused : ℕ → A} {said : A} {slices : List (List ℕ)} where
-  -- So do a refusal, whose number is not 0,
+  -- A result tells what happened where it is a refusal, whose number is not 0,
   refuses : {number : ℕ} → (number ≡ 0 → ⊥) → Tells refused said slices (leaves number slices)
   refuses h = record { keeps = λ g. refl; taken = λ z n e. h z }
 
@@ -103,37 +92,27 @@ both-numbered : (c : Check) {d : Check} → Numbered c → Numbered d → Number
 both-numbered check.Fine g h = h
 both-numbered (check.Refused n) g h = g
 
+-- What holds of the refusal by the check's number, and of the answer with what was found, holds of an answer by a check.
+by-check : {A F : Type 0} (P : A → Type 0) (unlessRefused : Check → F → A) (c : Check) (found : F) → Numbered c
+    → ((m : ℕ) → (m ≡ 0 → ⊥) → P (unlessRefused (check.Refused m) found)) → P (unlessRefused check.Fine found) → P (unlessRefused c found)
+by-check P unlessRefused check.Fine found g p q = q
+by-check P unlessRefused (check.Refused m) found g p q = p m (g m refl)
+
+-- An answer that writes one slice tells what happened, by what it leaves of the slice.
+abbrev Answered : {A : Type 0} → (ℕ → A) → (A → List ℕ → Outcome) → List ℕ → A → Type 0
+Answered refused leavesOf slice said = Tells refused said (slice ∷ []) (leavesOf said slice)
+
 -- ---- The log
 
--- An answer without values.
-abbrev Changes : List ℕ → Changed → Type 0
-Changes log said = Tells changed.Refused said (log ∷ []) (changedLeaves said log)
-
-pub log-new-tells : (start startterm last : ℕ) (settled log : List ℕ) → Tells changed.Refused (setupAnswer start startterm last settled) (log ∷ []) (newLeaves start startterm last settled log)
+pub log-new-tells : (start startterm last : ℕ) (settled log : List ℕ) → Tells changed.Refused (setupAnswer start startterm last settled) (log ∷ []) (newLogLeaves start startterm last settled log)
 unfolding setupAnswer
 log-new-tells start startterm last settled log =
     behind _ _
-    (both-ends (Changes log) (not (setupOk start startterm last settled)) (refuses (omega arith))
-    (both-ends (Changes log) (settledZero settled (last - start)) (refuses (omega arith)) (answers (λ n e. cc))))
+    (both-ends (Answered changed.Refused changedLeaves log) (not (setupOk start startterm last settled)) (refuses (omega arith))
+    (both-ends (Answered changed.Refused changedLeaves log) (settledZero settled (last - start)) (refuses (omega arith)) (answers (λ n e. cc))))
 
--- What each answer of the calls that only read tells.
 module _ (answer : List ℕ) where
-  abbrev Looks : Looked → Type 0
-  Looks said = Tells looked.Refused said (answer ∷ []) (lookedLeaves said answer)
-
-  abbrev Places : Placed → Type 0
-  Places said = Tells placed.Refused said (answer ∷ []) (placedLeaves said answer)
-
-  abbrev Says : Told → Type 0
-  Says said = Tells told.Refused said (answer ∷ []) (toldLeaves said answer)
-
-  abbrev Informs : Info → Type 0
-  Informs said = Tells info.Refused said (answer ∷ []) (infoLeaves said answer)
-
-  abbrev Finds : ByTerm → Type 0
-  Finds said = Tells byterm.Refused said (answer ∷ []) (byTermLeaves said answer)
-
-  bounds-tells : (said : Bounds) (l : Log) (settled pending : List ℕ) → Sound said l settled pending → Tells bounds.Refused said (answer ∷ []) (boundsLeaves said l answer)
+  bounds-tells : (said : Bounds) (l : Log) (settled pending : List ℕ) → NamesHeld said l settled pending → Tells bounds.Refused said (answer ∷ []) (boundsLeaves said l answer)
   bounds-tells bounds.Empty l settled pending s = answers (λ n e. cc)
   bounds-tells (bounds.Settled low high) l settled pending s = answers (λ n e. cc)
   bounds-tells (bounds.Pending low high) l settled pending s = answers (λ n e. cc)
@@ -142,34 +121,34 @@ module _ (answer : List ℕ) where
 module _ (log settled pending : List ℕ) where
   pub log-term-tells : (i : ℕ) (answer : List ℕ) → Tells looked.Refused (lookTerm (logFrom log) settled pending i) (answer ∷ []) (termLeaves log settled pending i answer)
   unfolding lookTerm
-  log-term-tells i answer = behind _ _ (behind _ _ (both-ends (Looks answer) (broken (logFrom log) settled pending) (refuses (omega arith)) (answers (λ n e. cc))))
+  log-term-tells i answer = behind _ _ (behind _ _ (both-ends (Answered looked.Refused lookedLeaves answer) (broken (logFrom log) settled pending) (refuses (omega arith)) (answers (λ n e. cc))))
 
   pub log-first-index-tells : (answer : List ℕ) → Tells placed.Refused (lookFirst (logFrom log) settled pending) (answer ∷ []) (firstIndexLeaves log settled pending answer)
   unfolding lookFirst
-  log-first-index-tells answer = behind _ _ (behind _ _ (both-ends (Places answer) (broken (logFrom log) settled pending) (refuses (omega arith)) (answers (λ n e. cc))))
+  log-first-index-tells answer = behind _ _ (behind _ _ (both-ends (Answered placed.Refused placedLeaves answer) (broken (logFrom log) settled pending) (refuses (omega arith)) (answers (λ n e. cc))))
 
   pub log-last-index-tells : (answer : List ℕ) → Tells placed.Refused (lookLast (logFrom log) settled pending) (answer ∷ []) (lastIndexLeaves log settled pending answer)
   unfolding lookLast
-  log-last-index-tells answer = behind _ _ (behind _ _ (both-ends (Places answer) (broken (logFrom log) settled pending) (refuses (omega arith)) (answers (λ n e. cc))))
+  log-last-index-tells answer = behind _ _ (behind _ _ (both-ends (Answered placed.Refused placedLeaves answer) (broken (logFrom log) settled pending) (refuses (omega arith)) (answers (λ n e. cc))))
 
   pub log-last-term-tells : (answer : List ℕ) → Tells looked.Refused (lookLastTerm (logFrom log) settled pending) (answer ∷ []) (lastTermLeaves log settled pending answer)
   unfolding lookLastTerm
-  log-last-term-tells answer = behind _ _ (behind _ _ (both-ends (Looks answer) (broken (logFrom log) settled pending) (refuses (omega arith)) (answers (λ n e. cc))))
+  log-last-term-tells answer = behind _ _ (behind _ _ (both-ends (Answered looked.Refused lookedLeaves answer) (broken (logFrom log) settled pending) (refuses (omega arith)) (answers (λ n e. cc))))
 
   pub log-commit-info-tells : (answer : List ℕ) → Tells info.Refused (lookCommit (logFrom log) settled pending) (answer ∷ []) (commitInfoLeaves log settled pending answer)
   unfolding lookCommit
-  log-commit-info-tells answer = behind _ _ (behind _ _ (both-ends (Informs answer) (broken (logFrom log) settled pending) (refuses (omega arith)) (answers (λ n e. cc))))
+  log-commit-info-tells answer = behind _ _ (behind _ _ (both-ends (Answered info.Refused infoLeaves answer) (broken (logFrom log) settled pending) (refuses (omega arith)) (answers (λ n e. cc))))
 
   pub log-is-up-to-date-tells : (i t : ℕ) (answer : List ℕ) → Tells told.Refused (lookUpToDate (logFrom log) settled pending i t) (answer ∷ []) (isUpToDateLeaves log settled pending i t answer)
   unfolding lookUpToDate
-  log-is-up-to-date-tells i t answer = behind _ _ (behind _ _ (both-ends (Says answer) (broken (logFrom log) settled pending) (refuses (omega arith)) (answers (λ n e. cc))))
+  log-is-up-to-date-tells i t answer = behind _ _ (behind _ _ (both-ends (Answered told.Refused toldLeaves answer) (broken (logFrom log) settled pending) (refuses (omega arith)) (answers (λ n e. cc))))
 
   pub log-find-conflict-by-term-tells : (i t : ℕ) (answer : List ℕ) → Tells byterm.Refused (byTerm (logFrom log) settled pending i t) (answer ∷ []) (findConflictByTermLeaves log settled pending i t answer)
   unfolding byTerm byTermIn
   log-find-conflict-by-term-tells i t answer =
       behind _ _ (behind _ _
-      (both-ends (Finds answer) (broken (logFrom log) settled pending) (refuses (omega arith))
-      (both-ends (Finds answer) (ltb (lastOf (logFrom log)) i) (answers (λ n e. cc)) (answers (λ n e. cc)))))
+      (both-ends (Answered byterm.Refused byTermLeaves answer) (broken (logFrom log) settled pending) (refuses (omega arith))
+      (both-ends (Answered byterm.Refused byTermLeaves answer) (ltb (lastOf (logFrom log)) i) (answers (λ n e. cc)) (answers (λ n e. cc)))))
 
 module _ (log settled pending : List ℕ) (idx term commit : ℕ) (run answer : List ℕ) where
   -- An answer of `maybe_append`, and the pending store after it.
@@ -216,9 +195,9 @@ module _ (log settled pending : List ℕ) where
   unfolding commitTo
   log-commit-to-tells i =
       behind _ _
-      (both-ends (Changes log) (broken (logFrom log) settled pending) (refuses (omega arith))
-      (both-ends (Changes log) (leb i (logFrom log .committed .0)) (answers (λ n e. cc))
-      (both-ends (Changes log) (ltb (lastOf (logFrom log)) i) (refuses (omega arith)) (answers (λ n e. cc)))))
+      (both-ends (Answered changed.Refused changedLeaves log) (broken (logFrom log) settled pending) (refuses (omega arith))
+      (both-ends (Answered changed.Refused changedLeaves log) (leb i (logFrom log .committed .0)) (answers (λ n e. cc))
+      (both-ends (Answered changed.Refused changedLeaves log) (ltb (lastOf (logFrom log)) i) (refuses (omega arith)) (answers (λ n e. cc)))))
 
   pub log-maybe-commit-tells : (i t : ℕ) (answer : List ℕ) → Tells decided.Refused (maybeCommit (logFrom log) settled pending i t) (log ∷ answer ∷ []) (maybeCommitLeaves log settled pending i t answer)
   unfolding maybeCommit
@@ -228,9 +207,9 @@ module _ (log settled pending : List ℕ) where
   unfolding appliedTo
   log-applied-to-tells i =
       behind _ _
-      (both-ends (Changes log) (broken (logFrom log) settled pending) (refuses (omega arith))
-      (both-ends (Changes log) (eqb i 0) (answers (λ n e. cc))
-      (both-ends (Changes log) (ltb (min (logFrom log .committed .0) (logFrom log .persisted .0)) i || ltb i (logFrom log .applied .0)) (refuses (omega arith)) (answers (λ n e. cc)))))
+      (both-ends (Answered changed.Refused changedLeaves log) (broken (logFrom log) settled pending) (refuses (omega arith))
+      (both-ends (Answered changed.Refused changedLeaves log) (eqb i 0) (answers (λ n e. cc))
+      (both-ends (Answered changed.Refused changedLeaves log) (ltb (min (logFrom log .committed .0) (logFrom log .persisted .0)) i || ltb i (logFrom log .applied .0)) (refuses (omega arith)) (answers (λ n e. cc)))))
 
   pub log-maybe-persist-tells : (i t : ℕ) (answer : List ℕ) → Tells decided.Refused (maybePersist (logFrom log) settled pending i t) (log ∷ answer ∷ []) (maybePersistLeaves log settled pending i t answer)
   unfolding maybePersist
@@ -259,7 +238,7 @@ module _ (log settled pending : List ℕ) where
 
   pub log-has-next-entries-since-tells : (s : ℕ) (answer : List ℕ) → Tells told.Refused (hasNextSince (logFrom log) settled pending s) (answer ∷ []) (hasNextEntriesSinceLeaves log settled pending s answer)
   unfolding hasNextSince
-  log-has-next-entries-since-tells s answer = behind _ _ (behind _ _ (both-ends (Says answer) (broken (logFrom log) settled pending) (refuses (omega arith)) (answers (λ n e. cc))))
+  log-has-next-entries-since-tells s answer = behind _ _ (behind _ _ (both-ends (Answered told.Refused toldLeaves answer) (broken (logFrom log) settled pending) (refuses (omega arith)) (answers (λ n e. cc))))
 
 -- ---- The quorums, and the leader's step
 
@@ -279,50 +258,34 @@ set-numbered v peers = both-numbered _ (voters-numbered v) (rows-numbered peers)
 sets-numbered : (c : JointConfig) (peers : List Peer) → Numbered (bothChecks (configCheck c) (rowsCheck peers))
 sets-numbered c peers = both-numbered _ (config-numbered c) (rows-numbered peers)
 
--- What each answer of the questions tells, by its check.
-module _ (answer : List ℕ) where
-  committed-tells : (c : Check) (h : Half) → Numbered c → Tells committed.Refused (committedUnless c h) (answer ∷ []) (committedLeaves (committedUnless c h) answer)
-  committed-tells check.Fine h g = answers (λ n e. cc)
-  committed-tells (check.Refused m) h g = refuses (g m refl)
-
-  verdict-tells : (c : Check) (r : VoteResult) → Numbered c → Tells verdict.Refused (resultUnless c r) (answer ∷ []) (verdictLeaves (resultUnless c r) answer)
-  verdict-tells check.Fine r g = answers (λ n e. cc)
-  verdict-tells (check.Refused m) r g = refuses (g m refl)
-
-  answer-tells : (c : Check) (b : Bool) → Numbered c → Tells joint-answer.Refused (answerUnless c b) (answer ∷ []) (answerLeaves (answerUnless c b) answer)
-  answer-tells check.Fine b g = answers (λ n e. cc)
-  answer-tells (check.Refused m) b g = refuses (g m refl)
-
-  listed-tells : (c : Check) (ids : List ℕ) → Numbered c → Tells check.Refused (listedUnless c ids .check) (answer ∷ []) (idsLeaves (listedUnless c ids) answer)
-  listed-tells check.Fine ids g = answers (λ n e. cc)
-  listed-tells (check.Refused m) ids g = refuses (g m refl)
-
 module _ (rows answer : List ℕ) where
   pub majority-committed-index-tells : (voters : List ℕ) → Tells committed.Refused (committedIndex (setOf voters) (peersFrom rows)) (answer ∷ []) (majorityIndexLeaves voters rows answer)
   unfolding committedIndex
-  majority-committed-index-tells voters = behind _ _ (committed-tells answer _ _ (set-numbered (setOf voters) (peersFrom rows)))
+  majority-committed-index-tells voters = behind _ _ (by-check (Answered committed.Refused committedLeaves answer) committedUnless _ _ (set-numbered (setOf voters) (peersFrom rows)) (λ m. refuses) (answers (λ n e. cc)))
 
   pub joint-committed-index-tells : (incoming outgoing : List ℕ) → Tells committed.Refused (jointIndex (configFrom incoming outgoing) (peersFrom rows)) (answer ∷ []) (jointIndexLeaves incoming outgoing rows answer)
   unfolding jointIndex
-  joint-committed-index-tells incoming outgoing = behind _ _ (committed-tells answer _ _ (sets-numbered (configFrom incoming outgoing) (peersFrom rows)))
+  joint-committed-index-tells incoming outgoing = behind _ _ (by-check (Answered committed.Refused committedLeaves answer) committedUnless _ _ (sets-numbered (configFrom incoming outgoing) (peersFrom rows)) (λ m. refuses) (answers (λ n e. cc)))
 
   pub majority-vote-result-tells : (voters : List ℕ) → Tells verdict.Refused (voteResult (setOf voters) (peersFrom rows)) (answer ∷ []) (majorityResultLeaves voters rows answer)
   unfolding voteResult
-  majority-vote-result-tells voters = behind _ _ (verdict-tells answer _ _ (set-numbered (setOf voters) (peersFrom rows)))
+  majority-vote-result-tells voters = behind _ _ (by-check (Answered verdict.Refused verdictLeaves answer) resultUnless _ _ (set-numbered (setOf voters) (peersFrom rows)) (λ m. refuses) (answers (λ n e. cc)))
 
   pub joint-vote-result-tells : (incoming outgoing : List ℕ) → Tells verdict.Refused (jointVerdict (configFrom incoming outgoing) (peersFrom rows)) (answer ∷ []) (jointResultLeaves incoming outgoing rows answer)
   unfolding jointVerdict
-  joint-vote-result-tells incoming outgoing = behind _ _ (verdict-tells answer _ _ (sets-numbered (configFrom incoming outgoing) (peersFrom rows)))
+  joint-vote-result-tells incoming outgoing = behind _ _ (by-check (Answered verdict.Refused verdictLeaves answer) resultUnless _ _ (sets-numbered (configFrom incoming outgoing) (peersFrom rows)) (λ m. refuses) (answers (λ n e. cc)))
 
 module _ (incoming outgoing answer : List ℕ) where
   pub joint-is-singleton-tells : Tells joint-answer.Refused (singleton (configFrom incoming outgoing)) (answer ∷ []) (singletonLeaves incoming outgoing answer)
-  joint-is-singleton-tells = behind _ _ (answer-tells answer _ _ (config-numbered (configFrom incoming outgoing)))
+  joint-is-singleton-tells = behind _ _ (by-check (Answered joint-answer.Refused answerLeaves answer) answerUnless _ _ (config-numbered (configFrom incoming outgoing)) (λ m. refuses) (answers (λ n e. cc)))
 
   pub joint-contains-tells : (id : ℕ) → Tells joint-answer.Refused (containsOf (configFrom incoming outgoing) id) (answer ∷ []) (containsLeaves incoming outgoing id answer)
-  joint-contains-tells id = behind _ _ (answer-tells answer _ _ (config-numbered (configFrom incoming outgoing)))
+  joint-contains-tells id = behind _ _ (by-check (Answered joint-answer.Refused answerLeaves answer) answerUnless _ _ (config-numbered (configFrom incoming outgoing)) (λ m. refuses) (answers (λ n e. cc)))
 
   pub joint-ids-tells : Tells check.Refused (idsAnswer (configFrom incoming outgoing) .check) (answer ∷ []) (jointIdsLeaves incoming outgoing answer)
-  joint-ids-tells = behind _ _ (listed-tells answer _ (bothIds (configFrom incoming outgoing)) (config-numbered (configFrom incoming outgoing)))
+  joint-ids-tells =
+      behind _ _
+      (by-check (λ said. Tells check.Refused (said .check) (answer ∷ []) (idsLeaves said answer)) listedUnless _ (bothIds (configFrom incoming outgoing)) (config-numbered (configFrom incoming outgoing)) (λ m. refuses) (answers (λ n e. cc)))
 
   -- Of no configuration is `clear` refused.
   pub joint-clear-tells : Tells check.Refused check.Fine (answer ∷ []) (clearLeaves incoming outgoing answer)
@@ -343,15 +306,13 @@ pub rows-checked-tells : (rows : List ℕ) → Tells check.Refused (rowsCheck (p
 rows-checked-tells rows = check-tells _ (rows-numbered (peersFrom rows))
 
 module _ (log settled pending : List ℕ) (term : ℕ) (incoming outgoing rows answer : List ℕ) where
-  -- The step on the index that was found, by the check of the sets and rows.
-  found-tells : (c : Check) (h : Half) → Numbered c → Decides log answer (commitFound (logFrom log) settled pending term (committedUnless c h))
-  unfolding maybeCommit
-  found-tells check.Fine h g = both-ends (Decides log answer) (broken (logFrom log) settled pending) (refuses (omega arith)) (both-ends (Decides log answer) (mayCommit (logFrom log) settled pending (h .index) term) (answers (λ n e. cc)) (answers (λ n e. cc)))
-  found-tells (check.Refused m) h g = both-ends (Decides log answer) (broken (logFrom log) settled pending) (refuses (omega arith)) (refuses (g m refl))
-
   pub leader-maybe-commit-tells : Tells decided.Refused (leaderCommit (logFrom log) settled pending term (configFrom incoming outgoing) (peersFrom rows)) (log ∷ answer ∷ []) (leaderCommitLeaves log settled pending term incoming outgoing rows answer)
-  unfolding leaderCommit jointIndex
-  leader-maybe-commit-tells = behind _ _ (behind _ _ (found-tells _ _ (sets-numbered (configFrom incoming outgoing) (peersFrom rows))))
+  unfolding leaderCommit jointIndex maybeCommit
+  leader-maybe-commit-tells =
+      behind _ _ (behind _ _
+      (by-check (λ found. Decides log answer (commitFound (logFrom log) settled pending term found)) committedUnless _ _ (sets-numbered (configFrom incoming outgoing) (peersFrom rows))
+      (λ m numbered. both-ends (Decides log answer) (broken (logFrom log) settled pending) (refuses (omega arith)) (refuses numbered))
+      (both-ends (Decides log answer) (broken (logFrom log) settled pending) (refuses (omega arith)) (both-ends (Decides log answer) (mayCommit (logFrom log) settled pending _ term) (answers (λ n e. cc)) (answers (λ n e. cc))))))
 
 -- ---- The inflight window
 
@@ -368,27 +329,20 @@ room-numbered : (w : Inflights) → Numbered (roomCheck w)
 unfolding roomCheck
 room-numbered w = fine-numbered (not (isFull w)) (omega arith)
 
--- What each answer tells, by its check.
+-- What each answer tells.
 changes-tells : (window : List ℕ) (c : Check) (w : Inflights) → Numbered c → Tells window-answer.Refused (windowUnless c w) (window ∷ []) (changes window (windowUnless c w))
-changes-tells window check.Fine w g = behind _ _ (answers (λ n e. cc))
-changes-tells window (check.Refused m) w g = behind _ _ (refuses (g m refl))
+changes-tells window c w g = behind _ _ (by-check (Answered window-answer.Refused windowLeaves window) windowUnless c w g (λ m. refuses) (answers (λ n e. cc)))
 
 added-tells : (window ring written : List ℕ) (c : Check) (w : Inflights) → Numbered c
     → Tells window-answer.Refused (windowUnless c w) (ring ∷ window ∷ []) (withStore (ringUnless c ring written) (windowLeaves (windowUnless c w) window))
 added-tells window ring written check.Fine w g = answers (λ n e. cc)
 added-tells window ring written (check.Refused m) w g = refuses (g m refl)
 
-module _ (answer : List ℕ) where
-  fullness-tells : (c : Check) (b : Bool) → Numbered c → Tells fullness-is.Refused (fullUnless c b) (answer ∷ []) (fullnessLeaves (fullUnless c b) answer)
-  fullness-tells check.Fine true g = answers (λ n e. cc)
-  fullness-tells check.Fine false g = answers (λ n e. cc)
-  fullness-tells (check.Refused m) b g = refuses (g m refl)
+full-tells : (answer : List ℕ) (b : Bool) → Answered fullness-is.Refused fullnessLeaves answer (fullUnless check.Fine b)
+full-tells answer true = answers (λ n e. cc)
+full-tells answer false = answers (λ n e. cc)
 
-  counted-tells : (c : Check) (count : ℕ) → Numbered c → Tells count-is.Refused (countUnless c count) (answer ∷ []) (countedLeaves (countUnless c count) answer)
-  counted-tells check.Fine count g = answers (λ n e. cc)
-  counted-tells (check.Refused m) count g = refuses (g m refl)
-
-pub inflights-new-tells : (cap : ℕ) (ring window : List ℕ) → Tells window-answer.Refused (made cap (length ring)) (window ∷ []) (windowNewLeaves cap ring window)
+pub inflights-new-tells : (cap : ℕ) (ring window : List ℕ) → Tells window-answer.Refused (made cap (length ring)) (window ∷ []) (newWindowLeaves cap ring window)
 unfolding made
 inflights-new-tells cap ring window = changes-tells window _ _ (cap-numbered cap (length ring))
 
@@ -422,8 +376,8 @@ module _ (window ring : List ℕ) where
 
   pub inflights-full-tells : (answer : List ℕ) → Tells fullness-is.Refused (fullness w (length ring)) (answer ∷ []) (fullLeaves window ring answer)
   unfolding fullness
-  inflights-full-tells answer = behind _ _ (behind _ _ (fullness-tells answer _ _ (window-numbered w (length ring))))
+  inflights-full-tells answer = behind _ _ (behind _ _ (by-check (Answered fullness-is.Refused fullnessLeaves answer) fullUnless _ _ (window-numbered w (length ring)) (λ m. refuses) (full-tells answer (isFull w))))
 
   pub inflights-count-tells : (answer : List ℕ) → Tells count-is.Refused (counted w (length ring)) (answer ∷ []) (countLeaves window ring answer)
   unfolding counted
-  inflights-count-tells answer = behind _ _ (behind _ _ (counted-tells answer _ _ (window-numbered w (length ring))))
+  inflights-count-tells answer = behind _ _ (behind _ _ (by-check (Answered count-is.Refused countedLeaves answer) countUnless _ _ (window-numbered w (length ring)) (λ m. refuses) (answers (λ n e. cc))))

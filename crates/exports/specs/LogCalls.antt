@@ -51,8 +51,8 @@ decidedLeaves decided.No log answer = leaves 0 (log ∷ put answer (flagWord fal
 decidedLeaves (decided.Refused number) log answer = leaves number (log ∷ answer ∷ [])
 
 -- THE PROMISE of `log_new`: what it leaves of `log`, whose words it does not read. Any pending store will do.
-abbrev pub newLeaves : ℕ → ℕ → ℕ → List ℕ → List ℕ → Outcome
-newLeaves start startterm last settled log = unlessShort log logLength (log ∷ []) (changedLeaves (setupAnswer start startterm last settled) log)
+abbrev pub newLogLeaves : ℕ → ℕ → ℕ → List ℕ → List ℕ → Outcome
+newLogLeaves start startterm last settled log = unlessShort log logLength (log ∷ []) (changedLeaves (setupAnswer start startterm last settled) log)
 
 -- THE PROMISE of `log_append`: what it leaves of `pending`, `log` and `answer`.
 abbrev pub appendLeaves : List ℕ → List ℕ → List ℕ → List ℕ → List ℕ → Outcome

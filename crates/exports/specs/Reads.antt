@@ -123,14 +123,14 @@ abbrev pub partAt : List ℕ → List ℕ → List ℕ → List ℕ
 partAt answer settled pending = take (getD answer 4 0) (drop (getD answer 3 0) (storeAt (getD answer 0 0) settled pending))
 
 -- A store whose first record is at index first holds the records from low up to high.
-pub record Holds (store : List ℕ) (first low high : ℕ) : Type 0 where
+pub record StoreHolds (store : List ℕ) (first low high : ℕ) : Type 0 where
   pub above : first ≤ low
   pub order : low ≤ high
   pub below : high - first ≤ room store
 
 -- What is so of every answer of the three calls (proofs/Parts.antt): the store holds the part that it names, and 0 is no refusal's number.
-abbrev pub Sound : Bounds → Log → List ℕ → List ℕ → Type 0
-Sound bounds.Empty l settled pending = Unit {0}
-Sound (bounds.Settled low high) l settled pending = Holds settled (l .start .0 + 1) (low .0) (high .0)
-Sound (bounds.Pending low high) l settled pending = Holds pending (l .offset .0) (low .0) (high .0)
-Sound (bounds.Refused number) l settled pending = number ≡ 0 → ⊥
+abbrev pub NamesHeld : Bounds → Log → List ℕ → List ℕ → Type 0
+NamesHeld bounds.Empty l settled pending = Unit {0}
+NamesHeld (bounds.Settled low high) l settled pending = StoreHolds settled (l .start .0 + 1) (low .0) (high .0)
+NamesHeld (bounds.Pending low high) l settled pending = StoreHolds pending (l .offset .0) (low .0) (high .0)
+NamesHeld (bounds.Refused number) l settled pending = number ≡ 0 → ⊥

@@ -23,10 +23,10 @@ use Rattle.exports.specs.Words.{singleLength, windowLength, flagWord, pu
 unfoldable pub deferredFrom : ℕ → ℕ → Deferred
 deferredFrom is cap = cond (eqb is 0) deferred.Nothing (deferred.Cap cap)
 
--- The first of the two words that say it: 1, else 0.
+-- The first of the two words that say it: a yes or a no.
 abbrev pub isDeferred : Deferred → ℕ
-isDeferred deferred.Nothing = 0
-isDeferred (deferred.Cap cap) = 1
+isDeferred deferred.Nothing = flagWord false
+isDeferred (deferred.Cap cap) = flagWord true
 
 -- The second: the cap, else 0.
 abbrev pub deferredCap : Deferred → ℕ
@@ -71,8 +71,8 @@ abbrev pub changes : List ℕ → Answer → Outcome
 changes window said = unlessShort window windowLength (window ∷ []) (windowLeaves said window)
 
 -- `inflights_new`, which does not read the words of `window`.
-abbrev pub newLeaves : ℕ → List ℕ → List ℕ → Outcome
-newLeaves cap ring window = changes window (made cap (length ring))
+abbrev pub newWindowLeaves : ℕ → List ℕ → List ℕ → Outcome
+newWindowLeaves cap ring window = changes window (made cap (length ring))
 
 -- `inflights_set_cap`.
 abbrev pub setCapLeaves : List ℕ → List ℕ → ℕ → Outcome

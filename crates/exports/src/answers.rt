@@ -15,7 +15,7 @@ ghost use lib.ListN.{length};
 ghost use Rattle.units.specs.Units.{wordMax};
 ghost use Rattle.raft_log.specs.Words.{recordWords};
 ghost use Rattle.exports.specs.Words.{singleLength, pairLength, tripleLength, partLength, put, leaves};
-ghost use Rattle.exports.specs.Reads.{lookedLeaves, placedLeaves, toldLeaves, infoLeaves, byTermLeaves, partWords, boundsLeaves, Sound};
+ghost use Rattle.exports.specs.Reads.{lookedLeaves, placedLeaves, toldLeaves, infoLeaves, byTermLeaves, partWords, boundsLeaves, NamesHeld};
 
 // The store that holds a part, by number.
 const SETTLED: u64 = 1;
@@ -81,11 +81,11 @@ pub fn write_by_term(answer: &mut [u64], said: ByTerm) -> u64
 {
     match said {
         ByTerm::Found { index, term } => {
-            store_triple(answer, index.0, 1, term.0);
+            store_triple(answer, index.0, flag(true), term.0);
             0
         }
         ByTerm::Beyond(index) => {
-            store_triple(answer, index.0, 0, 0);
+            store_triple(answer, index.0, flag(false), 0);
             0
         }
         ByTerm::Refused(number) => number,
@@ -100,7 +100,7 @@ pub fn write_bounds(
     pending: &[u64],
     said: Bounds,
 ) -> u64
-    requires { ⌜ (partLength ≤ length (now answer)) × Sound said log (now settled) (now pending) ⌝ }
+    requires { ⌜ (partLength ≤ length (now answer)) × NamesHeld said log (now settled) (now pending) ⌝ }
     ensures { λ r. ⌜ leaves r (now (answer .exit) ∷ []) ≡ boundsLeaves said log (now (answer .entry)) ⌝ }
 {
     match said {

@@ -44,8 +44,7 @@ fn write_committed(answer: &mut [u64], said: Committed) -> u64
 {
     match said {
         Committed::At(index, free) => {
-            answer[0] = index.0;
-            answer[1] = flag(free);
+            store_pair(answer, index.0, flag(free));
             0
         }
         Committed::Refused(number) => number,
@@ -85,7 +84,7 @@ fn store_ids(answer: &mut [u64], ids: [u64; JointConfig::IDS])
 {
     let mut i = 0;
     while i < JointConfig::IDS {
-        answer[i + 1] = ids[i];
+        answer[1 + i] = ids[i];
         i += 1;
     }
 }

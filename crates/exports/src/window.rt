@@ -10,12 +10,12 @@ use units::refusal::BROKEN_STATE;
 ghost use mathlib.Core.Path.{_≡_};
 ghost use mathlib.Core.List.{[], _∷_};
 ghost use Rattle.exports.specs.Words.{leaves};
-ghost use Rattle.exports.specs.WindowCalls.{newLeaves, setCapLeaves, addLeaves, freeToLeaves, freeFirstOneLeaves, resetLeaves, maybeFreeBufferLeaves, fullLeaves, countLeaves};
+ghost use Rattle.exports.specs.WindowCalls.{newWindowLeaves, setCapLeaves, addLeaves, freeToLeaves, freeFirstOneLeaves, resetLeaves, maybeFreeBufferLeaves, fullLeaves, countLeaves};
 
 // A window of no flights.
 #[no_mangle]
 pub extern "C" fn inflights_new(cap: u64, ring: &[u64], window: &mut [u64]) -> u64
-    ensures { λ r. ⌜ leaves r (now (window .exit) ∷ []) ≡ newLeaves cap (now (ring .entry)) (now (window .entry)) ⌝ }
+    ensures { λ r. ⌜ leaves r (now (window .exit) ∷ []) ≡ newWindowLeaves cap (now (ring .entry)) (now (window .entry)) ⌝ }
 {
     if window.len() < WINDOW {
         return BROKEN_STATE;

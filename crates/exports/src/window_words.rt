@@ -1,4 +1,5 @@
 // What a lent slice of words begins with where the inflight window is asked: the window's state, or the value of an answer.
+use crate::words::flag;
 use inflights::Answer;
 use inflights::Counted;
 use inflights::Deferred;
@@ -24,14 +25,14 @@ fn load_deferred(deferred: u64, cap: u64) -> Deferred
     Deferred::Cap(cap as usize)
 }
 
-// 1 if a cap is deferred, else 0.
+// Whether a cap is deferred, as a word.
 fn is_deferred(deferred: Deferred) -> u64
     ensures { λ r. ⌜ r ≡ isDeferred deferred ⌝ }
 {
     let Deferred::Cap(_) = deferred else {
-        return 0;
+        return flag(false);
     };
-    1
+    flag(true)
 }
 
 // The deferred cap, else 0.
@@ -90,11 +91,11 @@ pub fn write_fullness(answer: &mut [u64], said: Fullness) -> u64
 {
     match said {
         Fullness::Full => {
-            answer[0] = 1;
+            answer[0] = flag(true);
             0
         }
         Fullness::NotFull => {
-            answer[0] = 0;
+            answer[0] = flag(false);
             0
         }
         Fullness::Refused(number) => number,

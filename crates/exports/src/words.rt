@@ -134,11 +134,11 @@ pub fn write_decided(log: &mut [u64], answer: &mut [u64], said: Decided) -> u64
     match said {
         Decided::Yes(after) => {
             store(log, after);
-            answer[0] = 1;
+            answer[0] = flag(true);
             0
         }
         Decided::No => {
-            answer[0] = 0;
+            answer[0] = flag(false);
             0
         }
         Decided::Refused(number) => number,

@@ -12,7 +12,7 @@ use units::refusal::BROKEN_STATE;
 ghost use mathlib.Core.Path.{_≡_};
 ghost use mathlib.Core.List.{[], _∷_};
 ghost use Rattle.exports.specs.Words.{leaves};
-ghost use Rattle.exports.specs.LogCalls.{newLeaves, appendLeaves, commitToLeaves, maybeCommitLeaves, appliedToLeaves, maybePersistLeaves, stableEntriesLeaves};
+ghost use Rattle.exports.specs.LogCalls.{newLogLeaves, appendLeaves, commitToLeaves, maybeCommitLeaves, appliedToLeaves, maybePersistLeaves, stableEntriesLeaves};
 
 // Set-up: the state of a new log over its two stores.
 #[no_mangle]
@@ -24,7 +24,7 @@ pub extern "C" fn log_new(
     pending: &[u64],
     log: &mut [u64],
 ) -> u64
-    ensures { λ r. ⌜ leaves r (now (log .exit) ∷ []) ≡ newLeaves start «start_term» last (now (settled .entry)) (now (log .entry)) ⌝ }
+    ensures { λ r. ⌜ leaves r (now (log .exit) ∷ []) ≡ newLogLeaves start «start_term» last (now (settled .entry)) (now (log .entry)) ⌝ }
 {
     if log.len() < LOG {
         return BROKEN_STATE;

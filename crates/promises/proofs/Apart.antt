@@ -1,9 +1,9 @@
--- How two answers are told apart: words are read off both sides and compared by a test that computes. And what the log's and the quorums' promises compute through, named once.
+-- How two answers are told apart: words are read off both sides and compared by a test that computes. And what the promises of the log, the quorums and the window compute through, named once.
 use Prim.Native.Nat.{ℕ}
 use mathlib.Core.Path.{_≡_, refl, sym, ap, _∙_}
 use mathlib.Core.Logic.{_≢_}
 use mathlib.Core.Bool.{Bool, true, false, _&&_, false≢true}
-use mathlib.Core.List.{List, [], _∷_, _++_}
+use mathlib.Core.List.{List, [], _∷_, flatten}
 use lib.Dec.{eqb}
 use lib.ListN.{replicate}
 use borrow.Author.Tests.{eq-eqb}
@@ -21,18 +21,25 @@ use Rattle.rules.specs.Count.{count}
 use Rattle.rules.specs.Majority.{insert, falling, kth-largest, committed}
 use Rattle.quorum.specs.Ids.{position, has, distinct}
 use Rattle.quorum.specs.Half.{halfIndex}
-use Rattle.quorum.specs.Majority.{committedIndex, voteResult}
-use Rattle.quorum.specs.Joint.{jointIndex, jointVerdict, rising, bothIds}
+use Rattle.quorum.specs.Majority.{committedIndex, voteResult, plainIndex, plainResult}
+use Rattle.quorum.specs.Joint.{jointIndex, jointVerdict, plainJointIndex, plainJointVerdict, rising, bothIds}
+use Rattle.inflights.specs.State.{startFits, deferredFits, sound, windowCheck, capCheck, isFull, roomCheck}
+use Rattle.inflights.specs.Ring.{placeOf, values, flightsFrom, leading}
+use Rattle.inflights.specs.Calls.{made, withCap, setCapCheck, capped, fullness, counted, addCheck, added, ringAfter, takeUp, freeTo, freedTo, freedFirst, cleared, rewind, rewound}
 use Rattle.exports.specs.Words.{logLength, Outcome, leaves}
 
--- To name one of these on an `unfolding` line is to open each of its names.
+-- To name one of these on an `unfolding` line is to open each of its names, and `flatten`, by which the words of an outcome are joined.
 unfoldable pub log-promises : Unit {0}
-unfolding putRun firstFrom stateOk termAt numbered termsSet outside decide matchRun appendAnswer appendStore extendFrom extendAnswer extendStore commitTo appliedTo maybeCommit maybePersist settleAnswer settleStore lookTerm lookFirst lookLast lookLastTerm lookCommit lookUpToDate lastDown byTermIn byTerm inStore sliceIn sliceBounds entriesBounds hasNext hasNextSince nextBounds storePart partOf setupOk setupAnswer
+unfolding flatten putRun firstFrom stateOk termAt numbered termsSet outside decide matchRun appendAnswer appendStore extendFrom extendAnswer extendStore commitTo appliedTo maybeCommit maybePersist settleAnswer settleStore lookTerm lookFirst lookLast lookLastTerm lookCommit lookUpToDate lastDown byTermIn byTerm inStore sliceIn sliceBounds entriesBounds hasNext hasNextSince nextBounds storePart partOf setupOk setupAnswer
 log-promises = tt
 
 unfoldable pub quorum-promises : Unit {0}
-unfolding count insert falling kth-largest committed position has distinct halfIndex committedIndex voteResult jointIndex jointVerdict rising bothIds
+unfolding flatten count insert falling kth-largest committed position has distinct halfIndex committedIndex voteResult plainIndex plainResult jointIndex jointVerdict plainJointIndex plainJointVerdict rising bothIds
 quorum-promises = tt
+
+unfoldable pub window-promises : Unit {0}
+unfolding flatten startFits deferredFits sound windowCheck capCheck isFull roomCheck placeOf values flightsFrom leading made withCap setCapCheck capped fullness counted addCheck added ringAfter takeUp freeTo freedTo freedFirst cleared rewind rewound
+window-promises = tt
 
 -- The same words.
 abbrev same : List ℕ → List ℕ → Bool
@@ -54,20 +61,19 @@ pub apart : {A : Type 0} {a b : A} (look : A → ℕ) → same (look a ∷ []) (
 apart look = by-words (λ x. look x ∷ [])
 
 -- All the words of an outcome: the result, then its slices.
-abbrev joined : List (List ℕ) → List ℕ
-joined [] = []
-joined (slice ∷ slices) = slice ++ joined slices
-
 abbrev wordsOf : Outcome → List ℕ
-wordsOf out = out .result ∷ joined (out .slices)
+wordsOf out = out .result ∷ flatten (out .slices)
 
--- .. else the answer is read as crate exports says it in words.
+-- .. else the answer is read as an outcome,
 pub apart-as : {A : Type 0} {a b : A} (read : A → Outcome) → same (wordsOf (read a)) (wordsOf (read b)) ≡ false → a ≢ b
 apart-as read = by-words (λ x. wordsOf (read x))
 
--- A slice that an answer is read into: long enough for each, since none has more words than a log's state.
+-- or as crate exports says it in words. The slice that it is read into is long enough for each, since none has more words than a log's state.
 abbrev pub blank : List ℕ
 blank = replicate logLength 0
+
+pub apart-by : {A : Type 0} {a b : A} (leavesOf : A → List ℕ → Outcome) → same (wordsOf (leavesOf a blank)) (wordsOf (leavesOf b blank)) ≡ false → a ≢ b
+apart-by leavesOf = apart-as (λ x. leavesOf x blank)
 
 -- A store's words, and an outcome, read as they stand.
 abbrev pub asStore : List ℕ → Outcome

@@ -1,23 +1,10 @@
 -- Document 01's P cases hold: each side computes to the other.
 use mathlib.Core.Path.{refl}
-use Rattle.raft_log.specs.Words.{putRun, firstFrom}
-use Rattle.raft_log.specs.State.{stateOk, termAt}
-use Rattle.raft_log.specs.Run.{numbered, termsSet}
-use Rattle.raft_log.specs.Append.{outside, decide, matchRun, appendAnswer, appendStore}
-use Rattle.raft_log.specs.Look.{lookTerm, lastDown, byTermIn, byTerm}
-use Rattle.rules.specs.Count.{count}
-use Rattle.rules.specs.Majority.{insert, falling, kth-largest, committed}
-use Rattle.quorum.specs.Ids.{position, has, distinct}
-use Rattle.quorum.specs.Half.{halfIndex}
-use Rattle.quorum.specs.Majority.{committedIndex, voteResult}
-use Rattle.quorum.specs.Joint.{jointIndex}
-use Rattle.inflights.specs.State.{startFits, deferredFits, sound, windowCheck, capCheck, isFull, roomCheck}
-use Rattle.inflights.specs.Ring.{placeOf, values, flightsFrom, leading}
-use Rattle.inflights.specs.Calls.{made, withCap, setCapCheck, capped, fullness, addCheck, added, ringAfter, takeUp, freeTo, freedTo}
 use Rattle.promises.specs.Cases.{DocumentCases}
+use Rattle.promises.proofs.Apart.{log-promises, quorum-promises, window-promises}
 
 pub document-cases : DocumentCases
-unfolding putRun firstFrom stateOk termAt numbered termsSet outside decide matchRun appendAnswer appendStore lookTerm lastDown byTermIn byTerm count insert falling kth-largest committed position has distinct halfIndex committedIndex voteResult jointIndex made withCap setCapCheck capped fullness addCheck added ringAfter takeUp freeTo freedTo placeOf values flightsFrom leading startFits deferredFits sound windowCheck capCheck isFull roomCheck
+unfolding log-promises quorum-promises window-promises
 document-cases = record {
   term-0 = refl;
   term-5 = refl;

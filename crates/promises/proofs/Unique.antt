@@ -43,10 +43,10 @@ use Rattle.raft_log.specs.Slice.{sliceBounds, entriesBounds, hasNextSince, next
 use Rattle.raft_log.specs.declared.Log.{Log}
 use Rattle.leader.specs.Leader.{leaderCommit, commitFound}
 use Rattle.exports.specs.Words.{Outcome, leaves}
-use Rattle.exports.specs.LogCalls.{newLeaves as newLogLeaves, maybeAppendLeaves, appendLeaves, commitToLeaves, appliedToLeaves, maybeCommitLeaves, maybePersistLeaves, stableEntriesLeaves}
+use Rattle.exports.specs.LogCalls.{newLogLeaves, maybeAppendLeaves, appendLeaves, commitToLeaves, appliedToLeaves, maybeCommitLeaves, maybePersistLeaves, stableEntriesLeaves}
 use Rattle.exports.specs.Reads.{termLeaves, firstIndexLeaves, lastIndexLeaves, lastTermLeaves, commitInfoLeaves, isUpToDateLeaves, findConflictByTermLeaves, sliceLeaves, entriesLeaves, nextEntriesSinceLeaves, hasNextEntriesSinceLeaves}
 use Rattle.exports.specs.QuorumCalls.{majorityIndexLeaves, jointIndexLeaves, majorityResultLeaves, jointResultLeaves, singletonLeaves, containsLeaves, jointIdsLeaves, clearLeaves, votersRefusal, jointRefusal, rowsRefusal, leaderCommitLeaves}
-use Rattle.exports.specs.WindowCalls.{newLeaves as newWindowLeaves, setCapLeaves, addLeaves, freeToLeaves, freeFirstOneLeaves, resetLeaves, maybeFreeBufferLeaves, fullLeaves, countLeaves}
+use Rattle.exports.specs.WindowCalls.{newWindowLeaves, setCapLeaves, addLeaves, freeToLeaves, freeFirstOneLeaves, resetLeaves, maybeFreeBufferLeaves, fullLeaves, countLeaves}
 use Rattle.promises.specs.Unique.{OneAnswer, OneOutcome}
 
 -- THE LAW: a promise says that the answer is one function of the inputs, so any two answers are that function's value.

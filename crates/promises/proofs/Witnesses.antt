@@ -14,14 +14,12 @@ use Rattle.units.specs.declared.Check.the-variants as check
 use Rattle.units.proofs.Never.{never}
 use Rattle.rules.specs.Count.{count, Reordered, keep, swap, then}
 use Rattle.rules.specs.Log.{Entry, nothing, Log as Abstract, entry-at, Holds}
-use Rattle.rules.specs.Majority.{MajorityReached, Commits, insert, falling, kth-largest, committed}
+use Rattle.rules.specs.Majority.{MajorityReached, Commits}
 use Rattle.rules.proofs.Count.{count-reordered}
 use Rattle.rules.proofs.Majority.{committed-commits}
-use Rattle.quorum.specs.Ids.{position, has, distinct}
 use Rattle.quorum.specs.Voters.{setOf, noVoters}
-use Rattle.quorum.specs.Half.{halfIndex}
 use Rattle.quorum.specs.Votes.{Ends, free, yea, none as no-votes, Sure, Hopeless}
-use Rattle.quorum.specs.Joint.{oneSet, jointIndex, rising, bothIds}
+use Rattle.quorum.specs.Joint.{oneSet}
 use Rattle.quorum.specs.declared.rows.Vote.{Vote}
 use Rattle.quorum.specs.declared.rows.Vote.the-variants as vote
 use Rattle.quorum.specs.declared.joint.JointConfig.{JointConfig}
@@ -33,22 +31,17 @@ use Rattle.quorum_laws.proofs.Votes.{won-exactly-if-sure, lost-exactly-if-hopel
 use Rattle.quorum_laws.proofs.Joint.{joint-unique, joined-commits}
 use Rattle.quorum_laws.proofs.Ids.{both-ids}
 use Rattle.quorum_laws.proofs.Checks.{OnlyTwelve}
-use Rattle.inflights.specs.State.{startFits, deferredFits, sound, windowCheck, capCheck, isFull, roomCheck, Waits, Sound}
-use Rattle.inflights.specs.Ring.{placeOf, values, flightsFrom, leading, InRing}
-use Rattle.inflights.specs.Calls.{made, withCap, setCapCheck, capped, fullness, counted, addCheck, added, takeUp, freeTo, freedTo}
+use Rattle.inflights.specs.State.{Waits, Sound}
+use Rattle.inflights.specs.Ring.{InRing}
+use Rattle.inflights.specs.Calls.{capped}
 use Rattle.inflights.specs.Queue.{AllAtMost, BeginsAbove, Frees, IsFull, NeverBroken}
 use Rattle.inflights.specs.InPlace.{stepOf, Stored}
 use Rattle.inflights.specs.declared.Deferred.the-variants.{Nothing, Cap}
 use Rattle.inflights.proofs.Facts.{window-sound}
 use Rattle.inflights.proofs.Stays.{never-broken}
-use Rattle.raft_log.specs.Words.{putRun, firstFrom}
-use Rattle.raft_log.specs.State.{stateOk, termAt, Good}
-use Rattle.raft_log.specs.Run.{numbered, termsSet, checkRun}
-use Rattle.raft_log.specs.Append.{withCommitted, outside, decide, matchRun, appendAnswer, appendStore}
-use Rattle.raft_log.specs.Extend.{extendFrom, extendAnswer}
-use Rattle.raft_log.specs.Commit.{maybeCommit}
-use Rattle.raft_log.specs.Look.{lastDown, byTermIn, byTerm}
-use Rattle.raft_log.specs.Slice.{inStore, sliceIn, sliceBounds, storePart, partOf}
+use Rattle.raft_log.specs.State.{Good}
+use Rattle.raft_log.specs.Run.{checkRun}
+use Rattle.raft_log.specs.Append.{withCommitted}
 use Rattle.raft_log.specs.Setup.{setupOk, setupAnswer}
 use Rattle.raft_log.specs.declared.Bounds.the-variants as bounds
 use Rattle.raft_log.specs.declared.Changed.the-variants as changed
@@ -71,15 +64,13 @@ use Rattle.leader.specs.Leader.{leaderCommit}
 use Rattle.leader.specs.Rule.{MayCommit}
 use Rattle.leader.proofs.Backed.{commits-by-the-rule}
 use Rattle.exports.specs.Words.{leaves}
-use Rattle.exports.specs.Reads.{Holds as StoreHolds, Sound as SoundBounds}
-use Rattle.exports.specs.LogCalls.{newLeaves}
-use Rattle.exports.proofs.Results.{Tells, log-new-tells}
-use Rattle.promises.specs.Cases.{likeA, logA, settledA, pendingA, votersFrom, acking, threeAndTwo, window, old, flown}
-
--- What the quorums compute through.
-unfoldable quorums : Unit {0}
-unfolding count insert falling kth-largest committed position has distinct halfIndex rising bothIds
-quorums = tt
+use Rattle.exports.specs.Reads.{StoreHolds, NamesHeld}
+use Rattle.exports.specs.LogCalls.{newLogLeaves}
+use Rattle.exports.specs.Results.{Tells}
+use Rattle.exports.proofs.Results.{log-new-tells}
+use Rattle.two_ends.specs.Sanity.{log-with}
+use Rattle.promises.specs.Cases.{logA, settledA, pendingA, votersFrom, acking, threeAndTwo, window, old, flown}
+use Rattle.promises.proofs.Apart.{log-promises, quorum-promises, window-promises}
 
 -- ---- majorities
 
@@ -89,24 +80,24 @@ five = 2 ∷ 2 ∷ 2 ∷ 4 ∷ 5 ∷ []
 
 -- A majority of the five has acknowledged 2, and not 3.
 pub majority-reached : MajorityReached 2 five
-unfolding quorums
+unfolding quorum-promises
 majority-reached = lit≤ tt
 
 pub majority-not-reached : MajorityReached 3 five → ⊥
-unfolding quorums
+unfolding quorum-promises
 majority-not-reached h = omega arith
 
 -- 2 is committed, and 4 is not; of nobody, no number is.
 pub commits-two : Commits five 2
-unfolding quorums
+unfolding quorum-promises
 commits-two = committed-commits five (lit< tt)
 
 pub commits-not-four : Commits five 4 → ⊥
-unfolding quorums
+unfolding quorum-promises
 commits-not-four c = let h = c .by-majority in omega arith
 
 pub nobody-commits : (n : ℕ) → Commits [] n → ⊥
-unfolding quorums
+unfolding quorum-promises
 nobody-commits n c = let h = c .by-majority in omega arith
 
 -- Three ids in another order; and two lists that are not the same in any order.
@@ -114,7 +105,7 @@ pub another-order : Reordered {A = ℕ} (1 ∷ 2 ∷ 3 ∷ []) (2 ∷ 3 ∷ 1 �
 another-order = then (swap 1 2 (3 ∷ [])) (keep 2 (swap 1 3 []))
 
 pub no-order : Reordered {A = ℕ} (1 ∷ []) (2 ∷ []) → ⊥
-unfolding quorums
+unfolding quorum-promises
 no-order r = let same : _≡_ {A = ℕ} 1 0 = count-reordered (eqb 1) r in omega arith
 
 -- The same voters in another order; and sets of other sizes.
@@ -142,27 +133,27 @@ may-end = yea (free true (free false no-votes))
 
 -- Won however it ends, lost however it ends, and neither. Of nobody nothing is sure.
 pub sure : Sure sure-votes
-unfolding quorums
+unfolding quorum-promises
 sure = won-exactly-if-sure sure-votes (lit< tt) .0 refl
 
 pub not-sure : Sure open-votes → ⊥
-unfolding quorums
+unfolding quorum-promises
 not-sure s = let h = s (true ∷ false ∷ false ∷ []) (yea (free false (free false no-votes))) in omega arith
 
 pub nobody-sure : Sure [] → ⊥
-unfolding quorums
+unfolding quorum-promises
 nobody-sure s = let h = s [] no-votes in omega arith
 
 pub may-not-end : Ends (vote.Yes ∷ []) (false ∷ []) → ⊥
-unfolding quorums
+unfolding quorum-promises
 may-not-end e = let h = won-exactly-if-sure (vote.Yes ∷ []) (lit< tt) .0 refl (false ∷ []) e in omega arith
 
 pub hopeless : Hopeless lost-votes
-unfolding quorums
+unfolding quorum-promises
 hopeless = lost-exactly-if-hopeless lost-votes (lit< tt) .0 refl
 
 pub not-hopeless : Hopeless open-votes → ⊥
-unfolding quorums
+unfolding quorum-promises
 not-hopeless h = let few = h (true ∷ true ∷ true ∷ []) (yea (free true (free true no-votes))) in omega arith
 
 -- A half wins, or loses; one of nobody wins and does not lose.
@@ -192,11 +183,11 @@ outgoing = 3 ∷ 8 ∷ []
 
 -- A half backs what its majority has reached, and no more; a half of nobody backs any number.
 pub backs : Backs incoming 4
-unfolding quorums
+unfolding quorum-promises
 backs some = lit≤ tt
 
 pub not-backs : Backs incoming 5 → ⊥
-unfolding quorums
+unfolding quorum-promises
 not-backs b = let h : _ ≤ _ = b (lit< tt) in omega arith
 
 pub nobody-backs : Backs [] 5
@@ -204,14 +195,14 @@ nobody-backs some = absurd (omega arith)
 
 -- "joint 3", and not 4; u64::MAX where nobody has a say.
 pub joint-commits : JointCommits incoming outgoing 3
-unfolding quorums
+unfolding quorum-promises
 joint-commits = joined-commits incoming outgoing (lit≤ tt, (lit≤ tt, (lit≤ tt, tt))) (lit≤ tt, (lit≤ tt, tt))
 
 pub joint-not-four : JointCommits incoming outgoing 4 → ⊥
 joint-not-four c = let same = joint-unique c joint-commits in omega arith
 
 pub nobody-joint : JointCommits [] [] wordMax
-unfolding quorums
+unfolding quorum-promises
 nobody-joint = joined-commits [] [] tt tt
 
 -- Rows whose numbers have 64 bits, as all that the code reads; and a row that no code can hold.
@@ -223,19 +214,19 @@ no-word-rows w = omega (arith, w .0)
 
 -- Nothing is wrong with these sets and rows; a voter that stands twice is wrong. No check refuses by another number than 12.
 pub whole : Whole (votersFrom 1 5) (acking five)
-unfolding quorums
+unfolding quorum-promises
 whole = refl
 
 pub not-whole : Whole (setOf (1 ∷ 1 ∷ [])) [] → ⊥
-unfolding quorums
+unfolding quorum-promises
 not-whole w = never cc
 
 pub joint-whole : JointWhole threeAndTwo (acking five)
-unfolding quorums
+unfolding quorum-promises
 joint-whole = refl
 
 pub joint-not-whole : JointWhole threeAndTwo (acking five ++ acking five) → ⊥
-unfolding quorums
+unfolding quorum-promises
 joint-not-whole w = never cc
 
 pub not-only-twelve : OnlyTwelve (check.Refused windowFull) → ⊥
@@ -250,22 +241,22 @@ some-voters empty = never (cc (empty .0))
 
 -- The ids of both halves, in rising order; in another order they are no such list.
 pub lists-both : ListsBoth threeAndTwo (1 ∷ 2 ∷ 3 ∷ 4 ∷ 5 ∷ [])
-unfolding quorums
+unfolding quorum-promises
 lists-both = both-ids threeAndTwo
 
 pub not-rising : Rising (2 ∷ 1 ∷ []) → ⊥
-unfolding quorums
+unfolding quorum-promises
 not-rising r = omega (arith, r .0 1 refl)
 
 pub lists-not-both : ListsBoth threeAndTwo [] → ⊥
-unfolding quorums
+unfolding quorum-promises
 lists-not-both l = never (cc (l .members 1))
 
 -- ---- the window
 
--- What the window computes through.
+-- What the window and the laws of its queue compute through.
 unfoldable windows : Unit {0}
-unfolding startFits deferredFits sound windowCheck capCheck isFull roomCheck placeOf values flightsFrom leading made withCap setCapCheck capped fullness counted addCheck added takeUp freeTo freedTo AllAtMost BeginsAbove
+unfolding window-promises AllAtMost BeginsAbove
 windows = tt
 
 -- "cap 4, flights 5,5,6: set_cap(2) defers": the state rules of the window hold there, a deferred cap below the cap among them.
@@ -323,9 +314,9 @@ not-stored s = let z : _≡_ {A = ℕ} 7 0 = s .0 in omega arith
 
 -- ---- log A
 
--- What the log computes through.
+-- What the log and its view compute through.
 unfoldable logs : Unit {0}
-unfolding entry-at putRun firstFrom stateOk termAt numbered termsSet outside decide matchRun appendAnswer appendStore inStore sliceIn sliceBounds storePart partOf maybeCommit leaderCommit jointIndex lastDown byTermIn byTerm listed view-of recordsFrom quorums
+unfolding log-promises quorum-promises entry-at leaderCommit listed view-of recordsFrom
 logs = tt
 
 abbrev viewA : Abstract
@@ -336,7 +327,7 @@ pub good-A : Good logA settledA pendingA
 unfolding logs
 good-A = ok-good logA settledA pendingA refl
 
-pub bad-A : Good (likeA 4 2 2 4) settledA pendingA → ⊥
+pub bad-A : Good (log-with 4 2 2 4) settledA pendingA → ⊥
 bad-A g = omega (arith, g .persisted<offset)
 
 -- A has a record at 5, and none at 6.
@@ -421,18 +412,18 @@ held-before = record { good = good-A; within = (lit≤ tt, lit≤ tt); set = ref
 pub not-held-before : Held logA settledA pendingA 6 [] 0 → ⊥
 not-held-before h = omega (arith, h .within .1)
 
-pub cut : Cut 4 3 3 (indexOf 5) (indexOf 6) (likeA 4 3 4 3)
+pub cut : Cut 4 3 3 (indexOf 5) (indexOf 6) (log-with 4 3 4 3)
 unfolding logs
 cut = answer-cut logA settledA pendingA 3 2 4 run-4 refl (λ e. omega arith)
 
-pub not-cut : Cut 4 3 3 (indexOf 0) (indexOf 6) (likeA 4 3 4 3) → ⊥
+pub not-cut : Cut 4 3 3 (indexOf 0) (indexOf 6) (log-with 4 3 4 3) → ⊥
 not-cut c = omega (arith, c .follows)
 
-pub extends : Extends 4 6 1 (likeA 4 3 2 3)
-unfolding logs extendFrom extendAnswer
+pub extends : Extends 4 6 1 (log-with 4 3 2 3)
+unfolding logs
 extends = extend-cut logA settledA pendingA (6 ∷ 4 ∷ 8 ∷ []) refl (λ e. omega arith)
 
-pub not-extends : Extends 2 6 1 (likeA 4 3 2 3) → ⊥
+pub not-extends : Extends 2 6 1 (log-with 4 3 2 3) → ⊥
 not-extends e = omega (arith, e .fits)
 
 pub last-pending : Last logA settledA pendingA 5 3
@@ -460,14 +451,14 @@ pub store-holds-not : StoreHolds pendingA 4 3 6 → ⊥
 store-holds-not h = omega (arith, h .above)
 
 -- So bounds of it name a part that is there; a refusal by the number 0 would not be one.
-pub sound-bounds : SoundBounds (bounds.Pending (indexOf 4) (indexOf 6)) logA settledA pendingA
+pub sound-bounds : NamesHeld (bounds.Pending (indexOf 4) (indexOf 6)) logA settledA pendingA
 sound-bounds = store-holds
 
-pub unsound-bounds : SoundBounds (bounds.Refused 0) logA settledA pendingA → ⊥
+pub unsound-bounds : NamesHeld (bounds.Refused 0) logA settledA pendingA → ⊥
 unsound-bounds never = never refl
 
 -- A call that took all in leaves 0, which tells that it refused nothing; 0 beside a refusal would not tell it.
-pub tells : Tells changed.Refused (setupAnswer 0 0 3 settledA) (old ∷ []) (newLeaves 0 0 3 settledA old)
+pub tells : Tells changed.Refused (setupAnswer 0 0 3 settledA) (old ∷ []) (newLogLeaves 0 0 3 settledA old)
 tells = log-new-tells 0 0 3 settledA old
 
 pub tells-not : Tells changed.Refused (changed.Refused 1) (old ∷ []) (leaves 0 (old ∷ [])) → ⊥

@@ -2,48 +2,24 @@
 use Prim.Native.Nat.{ℕ}
 use mathlib.Core.Path.{refl}
 use mathlib.Core.List.{List, [], _∷_}
-use Rattle.raft_log.specs.declared.Looked.{Looked}
-use Rattle.raft_log.specs.declared.Placed.{Placed}
-use Rattle.raft_log.specs.declared.Told.{Told}
-use Rattle.raft_log.specs.declared.Info.{Info}
-use Rattle.raft_log.specs.declared.ByTerm.{ByTerm}
 use Rattle.raft_log.specs.declared.Appended.{Appended}
 use Rattle.raft_log.specs.declared.Extended.{Extended}
-use Rattle.raft_log.specs.declared.Changed.{Changed}
 use Rattle.raft_log.specs.declared.Decided.{Decided}
 use Rattle.raft_log.specs.declared.Bounds.{Bounds}
 use Rattle.leader.specs.Leader.{leaderCommit}
 use Rattle.exports.specs.Words.{Outcome}
 use Rattle.exports.specs.Reads.{lookedLeaves, placedLeaves, toldLeaves, infoLeaves, byTermLeaves, boundsLeaves}
 use Rattle.exports.specs.LogCalls.{appendedLeaves, extendedLeaves, changedLeaves, decidedLeaves}
-use Rattle.promises.specs.Cases.{logA, settledA, pendingA}
-use Rattle.promises.specs.WrongLog.{message, WrongLog, WrongEnginesLog}
-use Rattle.promises.proofs.Apart.{log-promises, quorum-promises, apart-as, blank, asStore}
+use Rattle.promises.specs.Cases.{logA, settledA, pendingA, message}
+use Rattle.promises.specs.WrongLog.{WrongLog, WrongEnginesLog}
+use Rattle.promises.proofs.Apart.{log-promises, quorum-promises, apart-as, apart-by, blank, asStore}
 
--- Each answer as words.
-abbrev looked : Looked → Outcome
-looked said = lookedLeaves said blank
-
-abbrev placed : Placed → Outcome
-placed said = placedLeaves said blank
-
-abbrev told : Told → Outcome
-told said = toldLeaves said blank
-
-abbrev info : Info → Outcome
-info said = infoLeaves said blank
-
-abbrev by-term : ByTerm → Outcome
-by-term said = byTermLeaves said blank
-
+-- An answer that leaves two slices, and bounds, as words.
 abbrev appended : Appended → Outcome
 appended said = appendedLeaves said blank blank
 
 abbrev extended : Extended → Outcome
 extended said = extendedLeaves said blank blank
-
-abbrev changed : Changed → Outcome
-changed said = changedLeaves said blank
 
 abbrev decided : Decided → Outcome
 decided said = decidedLeaves said blank blank
@@ -54,23 +30,23 @@ bounds said = boundsLeaves said logA blank
 pub wrong-log : WrongLog
 unfolding log-promises quorum-promises leaderCommit
 wrong-log = record {
-  new-over-term-0 = apart-as changed refl;
-  new-commits-settled = apart-as changed refl;
-  term-below-start = apart-as looked refl;
-  term-beyond-last = apart-as looked refl;
-  first-index-start = apart-as placed refl;
-  first-index-one = apart-as placed refl;
-  last-index-offset = apart-as placed refl;
-  last-index-next = apart-as placed refl;
-  last-term-settled = apart-as looked refl;
-  last-term-no-records = apart-as looked refl;
-  commit-info-last-term = apart-as info refl;
-  commit-info-applied = apart-as info refl;
-  is-up-to-date-shorter = apart-as told refl;
-  is-up-to-date-equal = apart-as told refl;
-  find-conflict-by-term-first = apart-as by-term refl;
-  find-conflict-by-term-beyond = apart-as by-term refl;
-  find-conflict-by-term-absent = apart-as by-term refl;
+  new-over-term-0 = apart-by changedLeaves refl;
+  new-commits-settled = apart-by changedLeaves refl;
+  term-below-start = apart-by lookedLeaves refl;
+  term-beyond-last = apart-by lookedLeaves refl;
+  first-index-start = apart-by placedLeaves refl;
+  first-index-one = apart-by placedLeaves refl;
+  last-index-offset = apart-by placedLeaves refl;
+  last-index-next = apart-by placedLeaves refl;
+  last-term-settled = apart-by lookedLeaves refl;
+  last-term-no-records = apart-by lookedLeaves refl;
+  commit-info-last-term = apart-by infoLeaves refl;
+  commit-info-applied = apart-by infoLeaves refl;
+  is-up-to-date-shorter = apart-by toldLeaves refl;
+  is-up-to-date-equal = apart-by toldLeaves refl;
+  find-conflict-by-term-first = apart-by byTermLeaves refl;
+  find-conflict-by-term-beyond = apart-by byTermLeaves refl;
+  find-conflict-by-term-absent = apart-by byTermLeaves refl;
   maybe-append-always-5 = apart-as appended refl;
   maybe-append-commits-9 = apart-as appended refl;
   maybe-append-says-yes = apart-as appended refl;
@@ -82,15 +58,15 @@ wrong-log = record {
   append-fills-gap = apart-as extended refl;
   append-lowers-persisted = apart-as extended refl;
   append-stores-behind = apart-as asStore refl;
-  commit-to-lowers = apart-as changed refl;
-  commit-to-beyond-last = apart-as changed refl;
+  commit-to-lowers = apart-by changedLeaves refl;
+  commit-to-beyond-last = apart-by changedLeaves refl;
   maybe-commit-another-term = apart-as decided refl;
   maybe-commit-beyond-last = apart-as decided refl;
-  applied-to-above-persisted = apart-as changed refl;
-  applied-to-lowers = apart-as changed refl;
+  applied-to-above-persisted = apart-by changedLeaves refl;
+  applied-to-lowers = apart-by changedLeaves refl;
   maybe-persist-pending = apart-as decided refl;
   maybe-persist-another-term = apart-as decided refl;
-  stable-entries-persists = apart-as changed refl;
+  stable-entries-persists = apart-by changedLeaves refl;
   stable-entries-copies-nothing = apart-as asStore refl;
   stable-entries-copies-spare = apart-as asStore refl;
   slice-bounds-crosses = apart-as bounds refl;
@@ -101,8 +77,8 @@ wrong-log = record {
   entries-bounds-from-first = apart-as bounds refl;
   entries-from-first = apart-as asStore refl;
   entries-without-last = apart-as asStore refl;
-  has-next-entries-since-not-persisted = apart-as told refl;
-  has-next-entries-since-wraps = apart-as told refl;
+  has-next-entries-since-not-persisted = apart-by toldLeaves refl;
+  has-next-entries-since-wraps = apart-by toldLeaves refl;
   next-entries-bounds-since-itself = apart-as bounds refl;
   next-entries-bounds-since-uncommitted = apart-as bounds refl;
   next-entries-since-itself = apart-as asStore refl;

@@ -1,53 +1,27 @@
--- The wrong answers are wrong, and the wrong engines differ from the promises: a number read off both sides tells them apart.
-use Prim.Native.Nat.{ℕ, suc, _+_}
+-- The wrong answers are wrong, and the wrong engines differ from the promises: a number or the words read off both sides tell them apart.
+use Prim.Native.Nat.{ℕ, suc}
 use mathlib.Core.Path.{refl}
-use mathlib.Core.Bool.{true, false}
 use mathlib.Core.List.{[], _∷_}
 use lib.ListN.{getD}
-use Rattle.units.specs.Units.{wordMax}
 use Rattle.units.specs.Refusals.{refusalOf}
-use Rattle.rules.specs.Count.{count}
-use Rattle.rules.specs.Majority.{insert, falling, kth-largest, committed}
-use Rattle.quorum.specs.Ids.{position, has, distinct}
 use Rattle.quorum.specs.Rows.{nobody}
-use Rattle.quorum.specs.Half.{halfIndex}
-use Rattle.quorum.specs.Majority.{committedIndex, voteResult, plainIndex, plainResult}
-use Rattle.quorum.specs.Joint.{oneSet, jointIndex, jointVerdict, plainJointIndex, plainJointVerdict, rising, bothIds}
-use Rattle.quorum.specs.declared.Committed.{Committed}
-use Rattle.quorum.specs.declared.Committed.the-variants as index
-use Rattle.quorum.specs.declared.Verdict.{Verdict}
-use Rattle.quorum.specs.declared.Verdict.the-variants as verdict
-use Rattle.quorum.specs.declared.joint.Answer.{Answer}
-use Rattle.quorum.specs.declared.joint.Answer.the-variants as answer
+use Rattle.quorum.specs.Joint.{oneSet}
 use Rattle.quorum.specs.declared.rows.Ack.{Ack}
 use Rattle.quorum.specs.declared.rows.Ack.the-variants as ack
 use Rattle.quorum.specs.declared.rows.Vote.the-variants.{Yes, No}
 use Rattle.exports.specs.Words.{flagWord}
-use Rattle.exports.specs.QuorumCalls.{resultWord}
-use Rattle.promises.specs.Cases.{votersFrom, acking, voting}
+use Rattle.exports.specs.QuorumCalls.{resultWord, committedLeaves, verdictLeaves, answerLeaves}
+use Rattle.promises.specs.Cases.{votersFrom, threeVoters, acking, voting}
 use Rattle.promises.specs.WrongQuorum.{WrongQuorum, WrongEnginesQuorum}
-use Rattle.promises.proofs.Apart.{apart}
+use Rattle.promises.proofs.Apart.{quorum-promises, apart, apart-by}
 
--- What is read off an answer by case: a number for each case, refusals behind the others.
-abbrev indexIn : Committed → ℕ
-indexIn (index.At i free) = i .0
-indexIn (index.Refused n) = wordMax + n
-
-abbrev resultIn : Verdict → ℕ
-resultIn (verdict.Stands said) = resultWord said
-resultIn (verdict.Refused n) = 3 + n
-
-abbrev saidIn : Answer → ℕ
-saidIn (answer.Is false) = 0
-saidIn (answer.Is true) = 1
-saidIn (answer.Refused n) = 2 + n
-
+-- What is read off an acknowledgement.
 abbrev ackIn : Ack → ℕ
 ackIn ack.Missing = 0
 ackIn (ack.At i) = suc (i .0)
 
 pub wrong-quorum : WrongQuorum
-unfolding count insert falling kth-largest committed position has distinct halfIndex committedIndex voteResult plainIndex plainResult jointIndex jointVerdict plainJointIndex plainJointVerdict rising bothIds
+unfolding quorum-promises
 wrong-quorum = record {
   index-new-next = apart (λ i. i .0) refl;
   index-new-cut = apart (λ i. i .0) refl;
@@ -69,34 +43,34 @@ wrong-quorum = record {
   ids-checked-seven = apart refusalOf refl;
   voters-checked-repeated = apart refusalOf refl;
   voters-checked-seven = apart refusalOf refl;
-  majority-committed-index-zero = apart indexIn refl;
-  majority-committed-index-half = apart indexIn refl;
-  majority-vote-result-pending = apart resultIn refl;
-  majority-vote-result-half = apart resultIn refl;
-  majority-committed-index-of-repeated = apart indexIn refl;
-  majority-committed-index-of-by-place = apart indexIn refl;
-  majority-vote-result-of-too-many = apart resultIn refl;
-  majority-vote-result-of-missing = apart resultIn refl;
+  majority-committed-index-zero = apart-by committedLeaves refl;
+  majority-committed-index-half = apart-by committedLeaves refl;
+  majority-vote-result-pending = apart-by verdictLeaves refl;
+  majority-vote-result-half = apart-by verdictLeaves refl;
+  majority-committed-index-of-repeated = apart-by committedLeaves refl;
+  majority-committed-index-of-by-place = apart-by committedLeaves refl;
+  majority-vote-result-of-too-many = apart-by verdictLeaves refl;
+  majority-vote-result-of-missing = apart-by verdictLeaves refl;
   joint-new-outgoing = apart (λ c. c .incoming .count) refl;
   joint-new-words = apart (λ c. getD (c .outgoing .ids) 0 0) refl;
   joint-clear-outgoing = apart (λ c. c .outgoing .count) refl;
   joint-clear-words = apart (λ c. getD (c .outgoing .ids) 0 0) refl;
   joint-checked-outgoing = apart refusalOf refl;
   joint-checked-in-both = apart refusalOf refl;
-  joint-is-singleton-outgoing = apart saidIn refl;
-  joint-is-singleton-repeated = apart saidIn refl;
-  joint-contains-outgoing = apart saidIn refl;
-  joint-contains-unused = apart saidIn refl;
+  joint-is-singleton-outgoing = apart-by answerLeaves refl;
+  joint-is-singleton-repeated = apart-by answerLeaves refl;
+  joint-contains-outgoing = apart-by answerLeaves refl;
+  joint-contains-unused = apart-by answerLeaves refl;
   joint-ids-twice = apart (λ l. l .count) refl;
   joint-ids-order = apart (λ l. getD (l .ids) 0 0) refl;
-  joint-committed-index-larger = apart indexIn refl;
-  joint-committed-index-empty = apart indexIn refl;
-  joint-vote-result-one-half = apart resultIn refl;
-  joint-vote-result-waits = apart resultIn refl;
-  joint-committed-index-of-larger = apart indexIn refl;
-  joint-committed-index-of-empty = apart indexIn refl;
-  joint-vote-result-of-one-half = apart resultIn refl;
-  joint-vote-result-of-waits = apart resultIn refl;
+  joint-committed-index-larger = apart-by committedLeaves refl;
+  joint-committed-index-empty = apart-by committedLeaves refl;
+  joint-vote-result-one-half = apart-by verdictLeaves refl;
+  joint-vote-result-waits = apart-by verdictLeaves refl;
+  joint-committed-index-of-larger = apart-by committedLeaves refl;
+  joint-committed-index-of-empty = apart-by committedLeaves refl;
+  joint-vote-result-of-one-half = apart-by verdictLeaves refl;
+  joint-vote-result-of-waits = apart-by verdictLeaves refl;
   rows-gather-column = apart (λ r. getD (r .values) 0 0) refl;
   rows-gather-count = apart (λ r. r .count) refl;
   rows-checked-repeated = apart refusalOf refl;
@@ -119,29 +93,29 @@ wrong-quorum = record {
   table-empty-zeros = apart (λ t. ackIn (getD (t .peers) 0 nobody .ack)) refl;
   table-with-not-counted = apart (λ t. t .count) refl;
   table-with-stays-full = apart (λ t. t .count) refl;
-  table-committed-index-too-many = apart indexIn refl;
-  table-committed-index-last-row = apart indexIn refl;
-  table-vote-result-by-seven = apart resultIn refl;
-  table-vote-result-unused = apart resultIn refl;
-  table-joint-committed-index-too-many = apart indexIn refl;
-  table-joint-committed-index-last-row = apart indexIn refl;
-  table-joint-vote-result-by-seven = apart resultIn refl;
-  table-joint-vote-result-unused = apart resultIn refl;
+  table-committed-index-too-many = apart-by committedLeaves refl;
+  table-committed-index-last-row = apart-by committedLeaves refl;
+  table-vote-result-by-seven = apart-by verdictLeaves refl;
+  table-vote-result-unused = apart-by verdictLeaves refl;
+  table-joint-committed-index-too-many = apart-by committedLeaves refl;
+  table-joint-committed-index-last-row = apart-by committedLeaves refl;
+  table-joint-vote-result-by-seven = apart-by verdictLeaves refl;
+  table-joint-vote-result-unused = apart-by verdictLeaves refl;
 }
 
 pub wrong-engines-quorum : WrongEnginesQuorum
-unfolding count insert falling kth-largest committed position has distinct halfIndex committedIndex voteResult jointIndex jointVerdict
+unfolding quorum-promises
 wrong-engines-quorum = record {
   index-by-the-rule = λ v peers. refl;
   joint-index-by-the-rule = λ c peers. refl;
   result-by-the-rule = λ v peers. refl;
   joint-result-by-the-rule = λ c peers. refl;
-  answers-zero = λ same. apart indexIn refl (same (votersFrom 1 3) (acking (5 ∷ 5 ∷ 5 ∷ [])));
-  answers-zero-joint = λ same. apart indexIn refl (same (oneSet (votersFrom 1 3)) (acking (5 ∷ 5 ∷ 5 ∷ [])));
-  stays-pending = λ same. apart resultIn refl (same (votersFrom 1 3) (voting (Yes ∷ Yes ∷ Yes ∷ [])));
-  stays-pending-joint = λ same. apart resultIn refl (same (oneSet (votersFrom 1 3)) (voting (Yes ∷ Yes ∷ Yes ∷ [])));
-  half-is-enough = λ same. apart indexIn refl (same (votersFrom 1 4) (acking (9 ∷ 7 ∷ 3 ∷ 3 ∷ [])));
-  half-is-enough-joint = λ same. apart indexIn refl (same (oneSet (votersFrom 1 4)) (acking (9 ∷ 7 ∷ 3 ∷ 3 ∷ [])));
-  half-wins = λ same. apart resultIn refl (same (votersFrom 1 4) (voting (Yes ∷ Yes ∷ No ∷ No ∷ [])));
-  half-wins-joint = λ same. apart resultIn refl (same (oneSet (votersFrom 1 4)) (voting (Yes ∷ Yes ∷ No ∷ No ∷ [])));
+  answers-zero = λ same. apart-by committedLeaves refl (same (votersFrom 1 3) (acking (5 ∷ 5 ∷ 5 ∷ [])));
+  answers-zero-joint = λ same. apart-by committedLeaves refl (same threeVoters (acking (5 ∷ 5 ∷ 5 ∷ [])));
+  stays-pending = λ same. apart-by verdictLeaves refl (same (votersFrom 1 3) (voting (Yes ∷ Yes ∷ Yes ∷ [])));
+  stays-pending-joint = λ same. apart-by verdictLeaves refl (same threeVoters (voting (Yes ∷ Yes ∷ Yes ∷ [])));
+  half-is-enough = λ same. apart-by committedLeaves refl (same (votersFrom 1 4) (acking (9 ∷ 7 ∷ 3 ∷ 3 ∷ [])));
+  half-is-enough-joint = λ same. apart-by committedLeaves refl (same (oneSet (votersFrom 1 4)) (acking (9 ∷ 7 ∷ 3 ∷ 3 ∷ [])));
+  half-wins = λ same. apart-by verdictLeaves refl (same (votersFrom 1 4) (voting (Yes ∷ Yes ∷ No ∷ No ∷ [])));
+  half-wins-joint = λ same. apart-by verdictLeaves refl (same (oneSet (votersFrom 1 4)) (voting (Yes ∷ Yes ∷ No ∷ No ∷ [])));
 }

@@ -1,17 +1,14 @@
 -- The promises over words rule the wrong outcomes out: both sides compute, and differ in a word.
 use mathlib.Core.Path.{refl}
-use Rattle.inflights.specs.State.{startFits, deferredFits, sound, windowCheck, capCheck, isFull, roomCheck}
-use Rattle.inflights.specs.Ring.{placeOf, values, flightsFrom, leading}
-use Rattle.inflights.specs.Calls.{made, withCap, setCapCheck, capped, fullness, counted, addCheck, added, ringAfter, takeUp, freeTo, freedTo, freedFirst, cleared, rewind, rewound}
 use Rattle.leader.specs.Leader.{leaderCommit}
 use Rattle.exports.specs.Words.{logFrom, unlessShort}
 use Rattle.exports.specs.Rows.{peersFrom}
 use Rattle.exports.specs.WindowCalls.{deferredFrom, windowFrom}
 use Rattle.promises.specs.WrongWords.{WrongWords}
-use Rattle.promises.proofs.Apart.{log-promises, quorum-promises, apart, apart-as, itself}
+use Rattle.promises.proofs.Apart.{log-promises, quorum-promises, window-promises, apart, apart-as, itself}
 
 pub wrong-words : WrongWords
-unfolding log-promises quorum-promises startFits deferredFits sound windowCheck capCheck isFull roomCheck placeOf values flightsFrom leading made withCap setCapCheck capped fullness counted addCheck added ringAfter takeUp freeTo freedTo freedFirst cleared rewind rewound leaderCommit logFrom unlessShort peersFrom deferredFrom windowFrom
+unfolding log-promises quorum-promises window-promises leaderCommit logFrom unlessShort peersFrom deferredFrom windowFrom
 wrong-words = record {
   log-new-writes-on-refusal = apart-as itself refl;
   log-new-six-words = apart-as itself refl;

@@ -20,7 +20,7 @@ use lib.ListN.{replicate}
 use Rattle.quorum.specs.Limits.{voterLimit, rowLimit}
 use Rattle.quorum.specs.Voters.{setOf, noVoters}
 use Rattle.quorum.specs.Majority.{committedIndex, voteResult}
-use Rattle.quorum.specs.Joint.{jointIndex}
+use Rattle.quorum.specs.Joint.{oneSet, jointIndex}
 use Rattle.quorum.specs.declared.Committed.{Committed}
 use Rattle.quorum.specs.declared.Committed.the-variants as answer
 use Rattle.quorum.specs.declared.Verdict.the-variants as verdict
@@ -41,12 +41,13 @@ use Rattle.inflights.specs.declared.Fullness.the-variants.{Full, NotFull}
 
 -- ---- the log
 
--- Log A, but for the four numbers that a message moves (offset, count, committed, persisted): start (0,0), applied 1.
-abbrev pub likeA : ℕ → ℕ → ℕ → ℕ → Log
-likeA = log-with
-
+-- Log A. What a message moves are four numbers: offset, count, committed, persisted; `log-with` of others is A but for these, start (0,0) and applied 1.
 abbrev pub logA : Log
-logA = likeA 4 2 2 3
+logA = log-with 4 2 2 3
+
+-- A with all five records committed, the last two of them not persisted.
+abbrev pub allCommittedA : Log
+allCommittedA = log-with 4 2 5 3
 
 -- The words of its settled store: records 1 to 3.
 abbrev pub settledA : List ℕ
@@ -60,6 +61,10 @@ pendingA = 2 ∷ 4 ∷ 3 ∷ 5 ∷ 0 ∷ 0 ∷ 0 ∷ 0 ∷ []
 pub record Appends (idx term commit : ℕ) (run : List ℕ) (answer : Appended) (words : List ℕ) : Type 0 where
   pub answers : appendAnswer logA settledA pendingA idx term commit run ≡ answer
   pub stores : appendStore answer pendingA idx run ≡ words
+
+-- The records (4,2),(5,4),(6,4), of which A holds the first and not the second.
+abbrev pub message : List ℕ
+message = 4 ∷ 2 ∷ 6 ∷ 5 ∷ 4 ∷ 7 ∷ 6 ∷ 4 ∷ 8 ∷ []
 
 -- "conflict and idx + count", and the log after it.
 abbrev pub taken : ℕ → ℕ → Log → Appended
@@ -80,23 +85,28 @@ idsFrom id (suc n) = id ∷ idsFrom (suc id) n
 abbrev pub votersFrom : ℕ → ℕ → Voters
 votersFrom id n = setOf (idsFrom id n)
 
--- Rows with these acknowledgements, whose ids rise from one on.
-abbrev pub ackingFrom : ℕ → List ℕ → List Peer
-ackingFrom id [] = []
-ackingFrom id (a ∷ acks) = record { id = id; ack = ack.At (indexOf a); vote = vote.Missing } ∷ ackingFrom (suc id) acks
+-- The voters 1, 2, 3, nobody outgoing.
+abbrev pub threeVoters : JointConfig
+threeVoters = oneSet (votersFrom 1 3)
 
--- Rows with these acknowledgements, whose ids rise from 1 on.
+-- Rows that say these things, whose ids rise from one on.
+abbrev pub rowsFrom : {A : Type 0} → (ℕ → A → Peer) → ℕ → List A → List Peer
+rowsFrom row id [] = []
+rowsFrom row id (said ∷ others) = row id said ∷ rowsFrom row (suc id) others
+
+-- The row of an id with an acknowledgement, and with a vote.
+abbrev pub acked : ℕ → ℕ → Peer
+acked id index = record { id = id; ack = ack.At (indexOf index); vote = vote.Missing }
+
+abbrev pub voted : ℕ → Vote → Peer
+voted id said = record { id = id; ack = ack.Missing; vote = said }
+
+-- Rows with these acknowledgements, and with these votes, whose ids rise from 1 on.
 abbrev pub acking : List ℕ → List Peer
-acking acks = ackingFrom 1 acks
+acking acks = rowsFrom acked 1 acks
 
--- Rows with these votes, whose ids rise from one on.
-abbrev pub votingFrom : ℕ → List Vote → List Peer
-votingFrom id [] = []
-votingFrom id (v ∷ votes) = record { id = id; ack = ack.Missing; vote = v } ∷ votingFrom (suc id) votes
-
--- Rows with these votes, whose ids rise from 1 on.
 abbrev pub voting : List Vote → List Peer
-voting votes = votingFrom 1 votes
+voting votes = rowsFrom voted 1 votes
 
 -- The answer that n is committed, by voters who had a say.
 abbrev pub upTo : ℕ → Committed
@@ -127,11 +137,11 @@ pub record DocumentCases : Type 0 where
   pub term-5 : lookTerm logA settledA pendingA 5 ≡ looked.At (termOf 3)
   pub term-6 : lookTerm logA settledA pendingA 6 ≡ looked.At (termOf 0)
   -- "idx 5, term 3, empty, commit 9: (0, 5), committed 5."
-  pub empty : Appends 5 3 9 [] (taken 0 5 (likeA 4 2 5 3)) pendingA
+  pub empty : Appends 5 3 9 [] (taken 0 5 allCommittedA) pendingA
   -- "idx 3, term 2, records (4,2),(5,4),(6,4), commit 4: (5, 6), pending 4 to 6, committed 4, persisted 3."
-  pub second-differs : Appends 3 2 4 (4 ∷ 2 ∷ 6 ∷ 5 ∷ 4 ∷ 7 ∷ 6 ∷ 4 ∷ 8 ∷ []) (taken 5 6 (likeA 4 3 4 3)) (2 ∷ 4 ∷ 4 ∷ 7 ∷ 4 ∷ 8 ∷ 0 ∷ 0 ∷ [])
+  pub second-differs : Appends 3 2 4 message (taken 5 6 (log-with 4 3 4 3)) (2 ∷ 4 ∷ 4 ∷ 7 ∷ 4 ∷ 8 ∷ 0 ∷ 0 ∷ [])
   -- "idx 2, term 1, record (3,5), commit 2: (3, 3), offset 3, persisted 2."
-  pub below-offset : Appends 2 1 2 (3 ∷ 5 ∷ 6 ∷ []) (taken 3 3 (likeA 3 1 2 2)) (5 ∷ 6 ∷ 3 ∷ 5 ∷ 0 ∷ 0 ∷ 0 ∷ 0 ∷ [])
+  pub below-offset : Appends 2 1 2 (3 ∷ 5 ∷ 6 ∷ []) (taken 3 3 (log-with 3 1 2 2)) (5 ∷ 6 ∷ 3 ∷ 5 ∷ 0 ∷ 0 ∷ 0 ∷ 0 ∷ [])
   -- "idx 1, term 1, record (2,7): refusal 6."
   pub below-committed : (commit : ℕ) → Appends 1 1 commit (2 ∷ 7 ∷ 6 ∷ []) (Refused cutsCommitted) pendingA
   -- "Idx 5, term 2: refusal 5."
@@ -148,7 +158,7 @@ pub record DocumentCases : Type 0 where
   pub five-voters : committedIndex (votersFrom 1 5) (acking (2 ∷ 2 ∷ 2 ∷ 4 ∷ 5 ∷ [])) ≡ upTo 2
   pub four-voters : committedIndex (votersFrom 1 4) (acking (9 ∷ 7 ∷ 7 ∷ 3 ∷ [])) ≡ upTo 7
   pub two-missing : committedIndex (votersFrom 1 3) (acking (5 ∷ [])) ≡ upTo 0
-  pub two-rows-missing : committedIndex (votersFrom 1 3) (acking (5 ∷ []) ++ votingFrom 2 (vote.Missing ∷ vote.Missing ∷ [])) ≡ upTo 0
+  pub two-rows-missing : committedIndex (votersFrom 1 3) (acking (5 ∷ []) ++ rowsFrom voted 2 (vote.Missing ∷ vote.Missing ∷ [])) ≡ upTo 0
   -- "incoming 5,4,3 gives 4, outgoing 3,8 gives 3, joint 3"
   pub incoming : committedIndex (threeAndTwo .incoming) (acking (5 ∷ 4 ∷ 3 ∷ 3 ∷ 8 ∷ [])) ≡ upTo 4
   pub outgoing : committedIndex (threeAndTwo .outgoing) (acking (5 ∷ 4 ∷ 3 ∷ 3 ∷ 8 ∷ [])) ≡ upTo 3

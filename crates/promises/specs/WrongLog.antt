@@ -36,7 +36,8 @@ use Rattle.quorum.specs.Voters.{setOf}
 use Rattle.quorum.specs.declared.Committed.the-variants as question
 use Rattle.quorum.specs.declared.joint.JointConfig.{JointConfig}
 use Rattle.leader.specs.Leader.{commitFound, leaderCommit}
-use Rattle.promises.specs.Cases.{likeA, logA, settledA, pendingA, taken, found, votersFrom, acking}
+use Rattle.two_ends.specs.Sanity.{log-with}
+use Rattle.promises.specs.Cases.{logA, allCommittedA, settledA, pendingA, message, taken, found, threeVoters, acking}
 
 -- ---- the inputs
 
@@ -48,10 +49,7 @@ onA call = call logA settledA pendingA
 abbrev pub on10 : {B : Type 0} → (Log → List ℕ → List ℕ → B) → B
 on10 call = call (fresh 10 4 12) (4 ∷ 11 ∷ 5 ∷ 12 ∷ []) []
 
--- The records (4,2),(5,4),(6,4), of which A holds the first and not the second; and the pending store after a message to A.
-abbrev pub message : List ℕ
-message = 4 ∷ 2 ∷ 6 ∷ 5 ∷ 4 ∷ 7 ∷ 6 ∷ 4 ∷ 8 ∷ []
-
+-- The pending store after a message to A.
 abbrev pub storeBy : ℕ → ℕ → ℕ → List ℕ → List ℕ
 storeBy idx term commit run = appendStore (onA appendAnswer idx term commit run) pendingA idx run
 
@@ -66,14 +64,7 @@ settledBy5 = settleStore (settleAnswer logA roomyA pendingA 5 3) logA roomyA pen
 abbrev pub wordsOfA : Bounds → List ℕ
 wordsOfA named = partOf named logA settledA pendingA
 
--- A with all five records committed, the last two of them not persisted.
-abbrev pub allCommittedA : Log
-allCommittedA = likeA 4 2 5 3
-
--- The voters 1, 2, 3, nobody outgoing; and a voter that stands twice.
-abbrev pub threeVoters : JointConfig
-threeVoters = oneSet (votersFrom 1 3)
-
+-- A voter that stands twice, nobody outgoing.
 abbrev pub voterTwice : JointConfig
 voterTwice = oneSet (setOf (1 ∷ 1 ∷ []))
 
@@ -86,7 +77,7 @@ pub record WrongLog : Type 0 where
   -- `term`, start (10,4): the start's term at 9, below the start.
   pub term-below-start : on10 lookTerm 9 ≢ looked.At (termOf 4)
   -- `term` of A with one pending record: the term at 5, which was cut and whose words still stand in the store.
-  pub term-beyond-last : lookTerm (likeA 4 1 2 3) settledA pendingA 5 ≢ looked.At (termOf 3)
+  pub term-beyond-last : lookTerm (log-with 4 1 2 3) settledA pendingA 5 ≢ looked.At (termOf 3)
   -- `first_index` of A: the start, 0.
   pub first-index-start : onA lookFirst ≢ placed.At (indexOf 0)
   -- `first_index`, start (10,4): 1, as if every log began there.
@@ -116,9 +107,9 @@ pub record WrongLog : Type 0 where
   -- `maybe_append`, idx 5, term 3, empty, commit 9: refusal 5.
   pub maybe-append-always-5 : onA appendAnswer 5 3 9 [] ≢ appended.Refused mismatch
   -- The same: committed 9, past idx + count.
-  pub maybe-append-commits-9 : onA appendAnswer 5 3 9 [] ≢ taken 0 5 (likeA 4 2 9 3)
+  pub maybe-append-commits-9 : onA appendAnswer 5 3 9 [] ≢ taken 0 5 (log-with 4 2 9 3)
   -- `maybe_append`, idx 3, term 2, a message whose second record differs, commit 4: (0, 6), and the log has no record more;
-  pub maybe-append-says-yes : onA appendAnswer 3 2 4 message ≢ taken 0 6 (likeA 4 2 4 3)
+  pub maybe-append-says-yes : onA appendAnswer 3 2 4 message ≢ taken 0 6 (log-with 4 2 4 3)
   -- nothing is stored;
   pub maybe-append-stores-nothing : storeBy 3 2 4 message ≢ pendingA
   -- the first record, which is held, is stored again with the message's body.
@@ -126,33 +117,33 @@ pub record WrongLog : Type 0 where
   -- `maybe_append`, idx 2, term 1, record (3,5), commit 2: the words of the records that are cut, and not written over, become 0.
   pub maybe-append-clears-cut : storeBy 2 1 2 (3 ∷ 5 ∷ 6 ∷ []) ≢ 5 ∷ 6 ∷ 0 ∷ 0 ∷ 0 ∷ 0 ∷ 0 ∷ 0 ∷ []
   -- `maybe_append`, idx 2, term 1, record (3,2), which is held, commit 0: it is taken for a conflict and 4 and 5 are cut.
-  pub maybe-append-cuts-held : onA appendAnswer 2 1 0 (3 ∷ 2 ∷ 6 ∷ []) ≢ taken 3 3 (likeA 3 1 2 2)
+  pub maybe-append-cuts-held : onA appendAnswer 2 1 0 (3 ∷ 2 ∷ 6 ∷ []) ≢ taken 3 3 (log-with 3 1 2 2)
   -- `maybe_append`, idx 9, term 0, empty, commit 2: (0, 9), as the crate answers.
   pub maybe-append-beyond-last : onA appendAnswer 9 0 2 [] ≢ taken 0 9 logA
   -- `append` of (7,3) to A: taken, with old words for record 6.
-  pub append-fills-gap : onA extendAnswer (7 ∷ 3 ∷ 9 ∷ []) ≢ extended.Last (indexOf 7) (likeA 4 4 2 3)
+  pub append-fills-gap : onA extendAnswer (7 ∷ 3 ∷ 9 ∷ []) ≢ extended.Last (indexOf 7) (log-with 4 4 2 3)
   -- `append` of (3,3) to A: record 3, which is persisted, is cut and persisted lowered.
-  pub append-lowers-persisted : onA extendAnswer (3 ∷ 3 ∷ 9 ∷ []) ≢ extended.Last (indexOf 3) (likeA 3 1 2 2)
+  pub append-lowers-persisted : onA extendAnswer (3 ∷ 3 ∷ 9 ∷ []) ≢ extended.Last (indexOf 3) (log-with 3 1 2 2)
   -- `append` of (5,4) to A: its words stand behind the pending records, not from its own index on.
   pub append-stores-behind : extendStore (onA extendAnswer (5 ∷ 4 ∷ 9 ∷ [])) pendingA (5 ∷ 4 ∷ 9 ∷ []) ≢ 2 ∷ 4 ∷ 3 ∷ 5 ∷ 4 ∷ 9 ∷ 0 ∷ 0 ∷ []
   -- `commit_to(1)` of A: committed lowered.
-  pub commit-to-lowers : onA commitTo 1 ≢ changed.Now (likeA 4 2 1 3)
+  pub commit-to-lowers : onA commitTo 1 ≢ changed.Now (log-with 4 2 1 3)
   -- `commit_to(6)` of A: committed beyond the last.
-  pub commit-to-beyond-last : onA commitTo 6 ≢ changed.Now (likeA 4 2 6 3)
+  pub commit-to-beyond-last : onA commitTo 6 ≢ changed.Now (log-with 4 2 6 3)
   -- `maybe_commit(4, 3)` of A: yes for a record of another term.
-  pub maybe-commit-another-term : onA maybeCommit 4 3 ≢ decided.Yes (likeA 4 2 4 3)
+  pub maybe-commit-another-term : onA maybeCommit 4 3 ≢ decided.Yes (log-with 4 2 4 3)
   -- `maybe_commit(6, 0)` of A: yes beyond the last, where the term is 0.
-  pub maybe-commit-beyond-last : onA maybeCommit 6 0 ≢ decided.Yes (likeA 4 2 6 3)
+  pub maybe-commit-beyond-last : onA maybeCommit 6 0 ≢ decided.Yes (log-with 4 2 6 3)
   -- `applied_to(4)` of A with all committed: applied above persisted.
   pub applied-to-above-persisted : appliedTo allCommittedA settledA pendingA 4 ≢ changed.Now (withApplied allCommittedA 4)
   -- `applied_to(1)` of A with 2 applied: applied lowered.
   pub applied-to-lowers : appliedTo (withApplied logA 2) settledA pendingA 1 ≢ changed.Now logA
   -- `maybe_persist(4, 2)` of A: yes for a pending record.
-  pub maybe-persist-pending : onA maybePersist 4 2 ≢ decided.Yes (likeA 4 2 2 4)
+  pub maybe-persist-pending : onA maybePersist 4 2 ≢ decided.Yes (log-with 4 2 2 4)
   -- `maybe_persist(3, 1)` of A with 2 persisted: yes for a settled record of another term.
-  pub maybe-persist-another-term : maybePersist (likeA 4 2 2 2) settledA pendingA 3 1 ≢ decided.Yes logA
+  pub maybe-persist-another-term : maybePersist (log-with 4 2 2 2) settledA pendingA 3 1 ≢ decided.Yes logA
   -- `stable_entries(5, 3)` of A with room: what is settled counts as persisted;
-  pub stable-entries-persists : settleAnswer logA roomyA pendingA 5 3 ≢ changed.Now (likeA 6 0 2 5)
+  pub stable-entries-persists : settleAnswer logA roomyA pendingA 5 3 ≢ changed.Now (log-with 6 0 2 5)
   -- nothing is copied;
   pub stable-entries-copies-nothing : settledBy5 ≢ roomyA
   -- the spare words of pending are copied too, over the old words behind.
@@ -186,9 +177,9 @@ pub record WrongLog : Type 0 where
   -- The same: the words of record 3 too.
   pub next-entries-since-uncommitted : wordsOfA (onA nextBounds 1) ≢ 1 ∷ 2 ∷ 2 ∷ 3 ∷ []
   -- The leader's `maybe_commit`, term 3, two of three voters at 4: yes for record 4, which is of an earlier term.
-  pub leader-maybe-commit-earlier-term : onA leaderCommit 3 threeVoters (acking (4 ∷ 4 ∷ [])) ≢ decided.Yes (likeA 4 2 4 3)
+  pub leader-maybe-commit-earlier-term : onA leaderCommit 3 threeVoters (acking (4 ∷ 4 ∷ [])) ≢ decided.Yes (log-with 4 2 4 3)
   -- The same of a log that is committed beyond its last, with a voter that stands twice: 12 before 1.
-  pub leader-maybe-commit-12-before-1 : leaderCommit (likeA 4 2 9 3) settledA pendingA 3 voterTwice [] ≢ decided.Refused brokenSet
+  pub leader-maybe-commit-12-before-1 : leaderCommit (log-with 4 2 9 3) settledA pendingA 3 voterTwice [] ≢ decided.Refused brokenSet
   -- `commit_found` of a refused question: no.
   pub commit-found-refused-is-no : onA commitFound 3 (question.Refused brokenSet) ≢ decided.No
   -- `commit_found` where nobody has a say (u64::MAX): the whole log is committed.
@@ -210,8 +201,8 @@ promised l settled pending idx term commit run = stored pending idx run (appendA
 
 module _ (l : Log) (settled pending : List ℕ) (idx term commit : ℕ) (run : List ℕ) where
   -- Its table with three parts open: whether the previous record is another, how many of the run's records are held, and the log after the message.
-  abbrev pub tableWith : Bool → ℕ → Log → Appended × List ℕ
-  tableWith isAnother held after =
+  abbrev pub answerWith : Bool → ℕ → Log → Appended × List ℕ
+  answerWith isAnother held after =
       stored pending idx run
       (cond (broken l settled pending) (appended.Refused brokenState)
       (cond (misnumbered run idx) (appended.Refused misnumberedRun)
@@ -233,7 +224,7 @@ module _ (l : Log) (settled pending : List ℕ) (idx term commit : ℕ) (run : L
   afterHeld held = afterMessage l idx (runCount run) held commit
 
   abbrev pub withOwnParts : Appended × List ℕ
-  withOwnParts = tableWith another alike (afterHeld alike)
+  withOwnParts = answerWith another alike (afterHeld alike)
 
   -- "an append that always gives 5"
   abbrev pub always5 : Appended × List ℕ
@@ -241,27 +232,27 @@ module _ (l : Log) (settled pending : List ℕ) (idx term commit : ℕ) (run : L
 
   -- "one that says (0, idx + count) and stores nothing": every run counts as held.
   abbrev pub storesNothing : Appended × List ℕ
-  storesNothing = tableWith another (runCount run) (afterHeld (runCount run))
+  storesNothing = answerWith another (runCount run) (afterHeld (runCount run))
 
   -- "one that cuts on every message": no record counts as held.
   abbrev pub cutsAlways : Appended × List ℕ
-  cutsAlways = tableWith another 0 (afterHeld 0)
+  cutsAlways = answerWith another 0 (afterHeld 0)
 
   -- "cutting everything after idx when the run already matches": only the run's records stay.
   abbrev pub cutsBehindMatch : Appended × List ℕ
-  cutsBehindMatch = tableWith another alike (cutIf (eqb alike (runCount run)) (afterHeld alike) (idx + runCount run + 1) (idx + runCount run))
+  cutsBehindMatch = answerWith another alike (cutIf (eqb alike (runCount run)) (afterHeld alike) (idx + runCount run + 1) (idx + runCount run))
 
   -- "taking term 0 as "absent, so no match" in ordinary lookups": the previous record is then another.
   abbrev pub zeroIsAbsent : Appended × List ℕ
-  zeroIsAbsent = tableWith (eqb term 0 || another) alike (afterHeld alike)
+  zeroIsAbsent = answerWith (eqb term 0 || another) alike (afterHeld alike)
 
   -- "committing to `commit` without the minimum"
   abbrev pub commitsBlindly : Appended × List ℕ
-  commitsBlindly = tableWith another alike (withCommitted (afterHeld alike) (max (l .committed .0) commit))
+  commitsBlindly = answerWith another alike (withCommitted (afterHeld alike) (max (l .committed .0) commit))
 
   -- "lowering persisted when there is no conflict": to idx, as if the first record were one.
   abbrev pub lowersPersisted : Appended × List ℕ
-  lowersPersisted = tableWith another alike (withPersisted (afterHeld alike) (min (l .persisted .0) idx))
+  lowersPersisted = answerWith another alike (withPersisted (afterHeld alike) (min (l .persisted .0) idx))
 
 -- Two engines leave the same of every message to every log; an engine does not leave what is promised.
 abbrev pub Same : Engine → Engine → Type 0

@@ -37,7 +37,7 @@ use Rattle.quorum.specs.declared.rows.Question.the-variants as question
 use Rattle.quorum.specs.declared.rows.Rows.{Rows}
 use Rattle.peer_tables.specs.Table.{noRows, oneMore, tableIndex, tableResult, tableJointIndex, tableJointVerdict}
 use Rattle.peer_tables.specs.declared.Table.{Table}
-use Rattle.promises.specs.Cases.{idsFrom, votersFrom, acking, voting, upTo, threeAndTwo}
+use Rattle.promises.specs.Cases.{idsFrom, votersFrom, threeVoters, acking, voting, upTo, threeAndTwo}
 
 -- ---- inputs
 
@@ -169,14 +169,14 @@ pub record WrongQuorum : Type 0 where
   -- Incoming at 5, 4, 3, outgoing at 3, 8: 4, the larger of 4 and 3.
   pub joint-committed-index-larger : jointIndex threeAndTwo (acking (5 ∷ 4 ∷ 3 ∷ 3 ∷ 8 ∷ [])) ≢ upTo 4
   -- Incoming at 5, 4, 3, nobody outgoing: 0, the empty half counted as 0. It is 4.
-  pub joint-committed-index-empty : jointIndex (oneSet (votersFrom 1 3)) (acking (5 ∷ 4 ∷ 3 ∷ [])) ≢ upTo 0
+  pub joint-committed-index-empty : jointIndex threeVoters (acking (5 ∷ 4 ∷ 3 ∷ [])) ≢ upTo 0
   -- Incoming all yes, outgoing one yes and one missing: Won, the outgoing half not waited for. It is Pending.
   pub joint-vote-result-one-half : jointVerdict threeAndTwo (voting (vote.Yes ∷ vote.Yes ∷ vote.Yes ∷ vote.Yes ∷ [])) ≢ verdict.Stands result.Won
   -- Incoming one yes and two missing, outgoing all no: Pending, the incoming half waited for. It is Lost.
   pub joint-vote-result-waits : jointVerdict threeAndTwo (voting (vote.Yes ∷ vote.Missing ∷ vote.Missing ∷ vote.No ∷ vote.No ∷ [])) ≢ verdict.Stands result.Pending
   -- The same four, over gathered rows.
   pub joint-committed-index-of-larger : plainJointIndex threeAndTwo (ackRows (5 ∷ 4 ∷ 3 ∷ 3 ∷ 8 ∷ [])) ≢ upTo 4
-  pub joint-committed-index-of-empty : plainJointIndex (oneSet (votersFrom 1 3)) (ackRows (5 ∷ 4 ∷ 3 ∷ [])) ≢ upTo 0
+  pub joint-committed-index-of-empty : plainJointIndex threeVoters (ackRows (5 ∷ 4 ∷ 3 ∷ [])) ≢ upTo 0
   pub joint-vote-result-of-one-half : plainJointVerdict threeAndTwo (voteRows (vote.Yes ∷ vote.Yes ∷ vote.Yes ∷ vote.Yes ∷ [])) ≢ verdict.Stands result.Won
   pub joint-vote-result-of-waits : plainJointVerdict threeAndTwo (voteRows (vote.Yes ∷ vote.Missing ∷ vote.Missing ∷ vote.No ∷ vote.No ∷ [])) ≢ verdict.Stands result.Pending
   -- ---- quorum: one half, by what its voters said

@@ -45,8 +45,8 @@ abbrev pub broken : ℕ → ℕ → Inflights
 broken start count = ofCap 5 start count
 
 -- What a call in place leaves, over the bridge: the window, and the number that is returned.
-abbrev pub leaves : Inflights → ℕ → Step
-leaves w code = record { window = w; code = code }
+abbrev pub stepLeft : Inflights → ℕ → Step
+stepLeft w code = record { window = w; code = code }
 
 -- ---- THE TABLE: what each call does not answer.
 pub record WrongWindow : Type 0 where
@@ -118,31 +118,31 @@ pub record WrongWindow : Type 0 where
   pub in-place-maybe-free-buffer-changed : ¬ Stored brokenWindow (broken 0 0) (stepOf (broken 3 0) (rewound (broken 3 0) 4))
   -- ---- over the bridge: the window that is handed back, and the number beside it
   -- Three flights, cap 5 in 4 words: 0 for 7.
-  pub bridge-set-cap-no-refusal : stepOf three (capped three 4 5) ≢ leaves three 0
+  pub bridge-set-cap-no-refusal : stepOf three (capped three 4 5) ≢ stepLeft three 0
   -- Three flights, cap 2: the window as it was handed in, nothing deferred.
-  pub bridge-set-cap-unchanged : stepOf three (capped three 4 2) ≢ leaves three 0
+  pub bridge-set-cap-unchanged : stepOf three (capped three 4 2) ≢ stepLeft three 0
   -- A full window: 0 for 11.
-  pub bridge-add-no-refusal : stepOf full (added full 4) ≢ leaves full 0
+  pub bridge-add-no-refusal : stepOf full (added full 4) ≢ stepLeft full 0
   -- An empty window: as it was handed in, nothing counted.
-  pub bridge-add-unchanged : stepOf empty (added empty 4) ≢ leaves empty 0
+  pub bridge-add-unchanged : stepOf empty (added empty 4) ≢ stepLeft empty 0
   -- 5 into an empty window: one flight counted, and the word not written.
-  pub bridge-add-not-written : ¬ ((stepOf empty (added empty 4) ≡ leaves (window 0 1 Nothing) 0) × (ringAfter empty old 5 ≡ old))
+  pub bridge-add-not-written : ¬ ((stepOf empty (added empty 4) ≡ stepLeft (window 0 1 Nothing) 0) × (ringAfter empty old 5 ≡ old))
   -- 5, 5, 6 in a broken window, free to 5: 0 for 13.
-  pub bridge-free-to-no-refusal : stepOf (broken 0 3) (freedTo (broken 0 3) flown 5) ≢ leaves (broken 0 3) 0
+  pub bridge-free-to-no-refusal : stepOf (broken 0 3) (freedTo (broken 0 3) flown 5) ≢ stepLeft (broken 0 3) 0
   -- 5, 5, 6, free to 5: the window as it was handed in.
-  pub bridge-free-to-unchanged : stepOf three (freedTo three flown 5) ≢ leaves three 0
+  pub bridge-free-to-unchanged : stepOf three (freedTo three flown 5) ≢ stepLeft three 0
   -- 5, 5, 6 in a broken window: 0 for 13.
-  pub bridge-free-first-one-no-refusal : stepOf (broken 0 3) (freedFirst (broken 0 3) flown) ≢ leaves (broken 0 3) 0
+  pub bridge-free-first-one-no-refusal : stepOf (broken 0 3) (freedFirst (broken 0 3) flown) ≢ stepLeft (broken 0 3) 0
   -- 5, 5, 6: the window as it was handed in.
-  pub bridge-free-first-one-unchanged : stepOf three (freedFirst three flown) ≢ leaves three 0
+  pub bridge-free-first-one-unchanged : stepOf three (freedFirst three flown) ≢ stepLeft three 0
   -- A broken window: 0 for 13.
-  pub bridge-reset-no-refusal : stepOf (broken 0 3) (cleared (broken 0 3) 4) ≢ leaves (broken 0 3) 0
+  pub bridge-reset-no-refusal : stepOf (broken 0 3) (cleared (broken 0 3) 4) ≢ stepLeft (broken 0 3) 0
   -- Three flights: the window as it was handed in.
-  pub bridge-reset-unchanged : stepOf three (cleared three 4) ≢ leaves three 0
+  pub bridge-reset-unchanged : stepOf three (cleared three 4) ≢ stepLeft three 0
   -- A broken window with an empty queue at start 3: 0 for 13.
-  pub bridge-maybe-free-buffer-no-refusal : stepOf (broken 3 0) (rewound (broken 3 0) 4) ≢ leaves (broken 3 0) 0
+  pub bridge-maybe-free-buffer-no-refusal : stepOf (broken 3 0) (rewound (broken 3 0) 4) ≢ stepLeft (broken 3 0) 0
   -- An empty queue at start 3: the window as it was handed in.
-  pub bridge-maybe-free-buffer-unchanged : stepOf (window 3 0 Nothing) (rewound (window 3 0 Nothing) 4) ≢ leaves (window 3 0 Nothing) 0
+  pub bridge-maybe-free-buffer-unchanged : stepOf (window 3 0 Nothing) (rewound (window 3 0 Nothing) 4) ≢ stepLeft (window 3 0 Nothing) 0
 
 -- ---- WRONG ENGINES
 

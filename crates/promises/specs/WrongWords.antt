@@ -11,11 +11,12 @@ use Rattle.raft_log.specs.Setup.{fresh}
 use Rattle.quorum.specs.Limits.{voterLimit, rowLimit}
 use Rattle.exports.specs.Words.{idsLength, logWords, Outcome, leaves}
 use Rattle.exports.specs.Reads.{termLeaves, firstIndexLeaves, lastIndexLeaves, lastTermLeaves, commitInfoLeaves, isUpToDateLeaves, findConflictByTermLeaves, sliceLeaves, entriesLeaves, nextEntriesSinceLeaves, hasNextEntriesSinceLeaves}
-use Rattle.exports.specs.LogCalls.{newLeaves, maybeAppendLeaves, appendLeaves, commitToLeaves, appliedToLeaves, maybeCommitLeaves, maybePersistLeaves, stableEntriesLeaves}
+use Rattle.exports.specs.LogCalls.{newLogLeaves, maybeAppendLeaves, appendLeaves, commitToLeaves, appliedToLeaves, maybeCommitLeaves, maybePersistLeaves, stableEntriesLeaves}
 use Rattle.exports.specs.QuorumCalls.{majorityIndexLeaves, majorityResultLeaves, jointIndexLeaves, jointResultLeaves, singletonLeaves, containsLeaves, jointIdsLeaves, clearLeaves, votersRefusal, jointRefusal, rowsRefusal, leaderCommitLeaves}
-use Rattle.exports.specs.WindowCalls.{newLeaves as newWindowLeaves, setCapLeaves, addLeaves, freeToLeaves, freeFirstOneLeaves, resetLeaves, maybeFreeBufferLeaves, fullLeaves, countLeaves}
-use Rattle.promises.specs.Cases.{likeA, logA, settledA, pendingA, idsFrom, old, flown}
-use Rattle.promises.specs.WrongLog.{message, roomyA, allCommittedA}
+use Rattle.exports.specs.WindowCalls.{newWindowLeaves, setCapLeaves, addLeaves, freeToLeaves, freeFirstOneLeaves, resetLeaves, maybeFreeBufferLeaves, fullLeaves, countLeaves}
+use Rattle.two_ends.specs.Sanity.{log-with}
+use Rattle.promises.specs.Cases.{logA, allCommittedA, settledA, pendingA, message, idsFrom, old, flown}
+use Rattle.promises.specs.WrongLog.{roomyA}
 
 -- ---- the inputs
 
@@ -31,7 +32,7 @@ abbrev pub callA : {B : Type 0} → (List ℕ → List ℕ → List ℕ → B) �
 callA call = call (stateOf logA) settledA pendingA
 
 abbrev pub brokenA : List ℕ
-brokenA = stateOf (likeA 4 2 9 3)
+brokenA = stateOf (log-with 4 2 9 3)
 
 -- Result 0, and one slice or two.
 abbrev pub writes : List ℕ → Outcome
@@ -69,15 +70,15 @@ threeFlights = 0 ∷ 3 ∷ 4 ∷ 0 ∷ 0 ∷ []
 abbrev pub threeDeferred : List ℕ
 threeDeferred = 0 ∷ 3 ∷ 4 ∷ 1 ∷ 2 ∷ []
 
-abbrev pub brokenWindow : List ℕ
-brokenWindow = 0 ∷ 5 ∷ 4 ∷ 0 ∷ 0 ∷ []
+abbrev pub overfullWindow : List ℕ
+overfullWindow = 0 ∷ 5 ∷ 4 ∷ 0 ∷ 0 ∷ []
 
 -- THE TABLE, in the order of docs/PROMISES.md.
 pub record WrongWords : Type 0 where
   -- `log_new` over a settled record of term 0: refused, with the state written.
-  pub log-new-writes-on-refusal : newLeaves 0 0 1 (0 ∷ 1 ∷ []) (nines 8) ≢ leaves zeroTerm (stateOf (fresh 0 0 1) ∷ [])
+  pub log-new-writes-on-refusal : newLogLeaves 0 0 1 (0 ∷ 1 ∷ []) (nines 8) ≢ leaves zeroTerm (stateOf (fresh 0 0 1) ∷ [])
   -- `log_new`, start (10,4): six words written, the seventh left.
-  pub log-new-six-words : newLeaves 10 4 10 [] (nines 8) ≢ writes (10 ∷ 4 ∷ 11 ∷ 0 ∷ 10 ∷ 10 ∷ 9 ∷ 9 ∷ [])
+  pub log-new-six-words : newLogLeaves 10 4 10 [] (nines 8) ≢ writes (10 ∷ 4 ∷ 11 ∷ 0 ∷ 10 ∷ 10 ∷ 9 ∷ 9 ∷ [])
   -- `log_term(5)` of A with no word for the term: 0, as if it were told.
   pub log-term-no-word : callA termLeaves 5 [] ≢ writes []
   -- `log_term(5)` of a broken state: refused, with a word written.
@@ -107,35 +108,35 @@ pub record WrongWords : Type 0 where
   -- `log_find_conflict_by_term(5, 2)` of A: index and term without the flag.
   pub log-find-conflict-by-term-no-flag : callA findConflictByTermLeaves 5 2 (nines 3) ≢ writes (4 ∷ 2 ∷ 9 ∷ [])
   -- `log_maybe_append`, idx 3, term 2, a message whose second record differs, commit 4: conflict and last exchanged;
-  pub log-maybe-append-exchanged : callA maybeAppendLeaves 3 2 4 message (nines 2) ≢ leaves 0 ((2 ∷ 4 ∷ 4 ∷ 7 ∷ 4 ∷ 8 ∷ 0 ∷ 0 ∷ []) ∷ stateOf (likeA 4 3 4 3) ∷ (6 ∷ 5 ∷ []) ∷ [])
+  pub log-maybe-append-exchanged : callA maybeAppendLeaves 3 2 4 message (nines 2) ≢ leaves 0 ((2 ∷ 4 ∷ 4 ∷ 7 ∷ 4 ∷ 8 ∷ 0 ∷ 0 ∷ []) ∷ stateOf (log-with 4 3 4 3) ∷ (6 ∷ 5 ∷ []) ∷ [])
   -- the pending store not written.
-  pub log-maybe-append-store-untouched : callA maybeAppendLeaves 3 2 4 message (nines 2) ≢ leaves 0 (pendingA ∷ stateOf (likeA 4 3 4 3) ∷ (5 ∷ 6 ∷ []) ∷ [])
+  pub log-maybe-append-store-untouched : callA maybeAppendLeaves 3 2 4 message (nines 2) ≢ leaves 0 (pendingA ∷ stateOf (log-with 4 3 4 3) ∷ (5 ∷ 6 ∷ []) ∷ [])
   -- `log_maybe_append`, idx 5, term 2, commit 9: refused, with committed raised in the state.
   pub log-maybe-append-writes-on-refusal : callA maybeAppendLeaves 5 2 9 [] (nines 2) ≢ leaves mismatch (pendingA ∷ stateOf allCommittedA ∷ nines 2 ∷ [])
   -- `log_append` of (6,3) to A: the state not written back;
   pub log-append-state-untouched : callA appendLeaves (6 ∷ 3 ∷ 6 ∷ []) (nines 1) ≢ leaves 0 ((2 ∷ 4 ∷ 3 ∷ 5 ∷ 3 ∷ 6 ∷ 0 ∷ 0 ∷ []) ∷ stateOf logA ∷ (6 ∷ []) ∷ [])
   -- the run's count for the last index;
-  pub log-append-count : callA appendLeaves (6 ∷ 3 ∷ 6 ∷ []) (nines 1) ≢ leaves 0 ((2 ∷ 4 ∷ 3 ∷ 5 ∷ 3 ∷ 6 ∷ 0 ∷ 0 ∷ []) ∷ stateOf (likeA 4 3 2 3) ∷ (1 ∷ []) ∷ [])
+  pub log-append-count : callA appendLeaves (6 ∷ 3 ∷ 6 ∷ []) (nines 1) ≢ leaves 0 ((2 ∷ 4 ∷ 3 ∷ 5 ∷ 3 ∷ 6 ∷ 0 ∷ 0 ∷ []) ∷ stateOf (log-with 4 3 2 3) ∷ (1 ∷ []) ∷ [])
   -- the run's index stored too.
-  pub log-append-stores-index : callA appendLeaves (6 ∷ 3 ∷ 6 ∷ []) (nines 1) ≢ leaves 0 ((2 ∷ 4 ∷ 3 ∷ 5 ∷ 6 ∷ 3 ∷ 6 ∷ 0 ∷ []) ∷ stateOf (likeA 4 3 2 3) ∷ (6 ∷ []) ∷ [])
+  pub log-append-stores-index : callA appendLeaves (6 ∷ 3 ∷ 6 ∷ []) (nines 1) ≢ leaves 0 ((2 ∷ 4 ∷ 3 ∷ 5 ∷ 6 ∷ 3 ∷ 6 ∷ 0 ∷ []) ∷ stateOf (log-with 4 3 2 3) ∷ (6 ∷ []) ∷ [])
   -- `log_commit_to(3)` of A: applied moved for committed.
   pub log-commit-to-applies : callA commitToLeaves 3 ≢ writes (stateOf (withApplied logA 3))
   -- `log_commit_to(6)` of A: refused, with committed at the last.
   pub log-commit-to-writes-on-refusal : callA commitToLeaves 6 ≢ leaves outOfRange (stateOf allCommittedA ∷ [])
   -- `log_applied_to(2)` of A: persisted moved for applied.
-  pub log-applied-to-persists : callA appliedToLeaves 2 ≢ writes (stateOf (likeA 4 2 2 2))
+  pub log-applied-to-persists : callA appliedToLeaves 2 ≢ writes (stateOf (log-with 4 2 2 2))
   -- `log_applied_to(3)` of A: refused, with applied moved.
   pub log-applied-to-writes-on-refusal : callA appliedToLeaves 3 ≢ leaves outOfRange (stateOf (withApplied logA 3) ∷ [])
   -- `log_maybe_commit(3, 2)` of A: 1, with the state as it was.
   pub log-maybe-commit-state-untouched : callA maybeCommitLeaves 3 2 (nines 1) ≢ writesBoth (stateOf logA) (1 ∷ [])
   -- `log_maybe_commit(4, 3)` of A: 0, with committed moved.
-  pub log-maybe-commit-writes-on-no : callA maybeCommitLeaves 4 3 (nines 1) ≢ writesBoth (stateOf (likeA 4 2 4 3)) (0 ∷ [])
+  pub log-maybe-commit-writes-on-no : callA maybeCommitLeaves 4 3 (nines 1) ≢ writesBoth (stateOf (log-with 4 2 4 3)) (0 ∷ [])
   -- `log_maybe_persist(3, 2)` of A with 2 persisted: 1, with the state as it was.
-  pub log-maybe-persist-state-untouched : maybePersistLeaves (stateOf (likeA 4 2 2 2)) settledA pendingA 3 2 (nines 1) ≢ writesBoth (stateOf (likeA 4 2 2 2)) (1 ∷ [])
+  pub log-maybe-persist-state-untouched : maybePersistLeaves (stateOf (log-with 4 2 2 2)) settledA pendingA 3 2 (nines 1) ≢ writesBoth (stateOf (log-with 4 2 2 2)) (1 ∷ [])
   -- `log_maybe_persist(3, 1)` of it: 0, with persisted moved.
-  pub log-maybe-persist-writes-on-no : maybePersistLeaves (stateOf (likeA 4 2 2 2)) settledA pendingA 3 1 (nines 1) ≢ writesBoth (stateOf logA) (0 ∷ [])
+  pub log-maybe-persist-writes-on-no : maybePersistLeaves (stateOf (log-with 4 2 2 2)) settledA pendingA 3 1 (nines 1) ≢ writesBoth (stateOf logA) (0 ∷ [])
   -- `log_stable_entries(5, 3)` of A with room: offset moved with nothing copied.
-  pub log-stable-entries-copies-nothing : stableEntriesLeaves (stateOf logA) roomyA pendingA 5 3 ≢ writesBoth roomyA (stateOf (likeA 6 0 2 3))
+  pub log-stable-entries-copies-nothing : stableEntriesLeaves (stateOf logA) roomyA pendingA 5 3 ≢ writesBoth roomyA (stateOf (log-with 6 0 2 3))
   -- `log_stable_entries(4, 2)` of it, not the last record: refused, with pending copied.
   pub log-stable-entries-copies-on-refusal : stableEntriesLeaves (stateOf logA) roomyA pendingA 4 2 ≢ leaves notPending ((settledA ++ 2 ∷ 4 ∷ 3 ∷ 5 ∷ 8 ∷ 9 ∷ []) ∷ stateOf logA ∷ [])
   -- `log_slice(4, 6)` of A: settled named for pending.
@@ -201,7 +202,7 @@ pub record WrongWords : Type 0 where
   -- `leader_maybe_commit` of a broken state with a voter that stands twice: 12 before 1.
   pub leader-maybe-commit-12-before-1 : leaderCommitLeaves brokenA settledA pendingA 3 (1 ∷ 1 ∷ []) [] [] (nines 1) ≢ leaves brokenSet (brokenA ∷ nines 1 ∷ [])
   -- `leader_maybe_commit` of A, term 3, two of three voters at 4: yes for record 4, which is of an earlier term.
-  pub leader-maybe-commit-earlier-term : callA leaderCommitLeaves 3 (idsFrom 1 3) [] (acks 1 4 ++ acks 2 4) (nines 1) ≢ writesBoth (stateOf (likeA 4 2 4 3)) (1 ∷ [])
+  pub leader-maybe-commit-earlier-term : callA leaderCommitLeaves 3 (idsFrom 1 3) [] (acks 1 4 ++ acks 2 4) (nines 1) ≢ writesBoth (stateOf (log-with 4 2 4 3)) (1 ∷ [])
   -- `inflights_new`, cap 5, a ring of 4: a window whose cap is above the ring.
   pub inflights-new-above-ring : newWindowLeaves 5 old (nines 5) ≢ writes (0 ∷ 0 ∷ 5 ∷ 0 ∷ 0 ∷ [])
   -- `inflights_new`, cap 4: the words of the deferred cap left as they were.
@@ -233,8 +234,8 @@ pub record WrongWords : Type 0 where
   -- `inflights_full` of three flights, cap 4, with a cap of 2 deferred: no.
   pub inflights-full-forgets-deferred : fullLeaves threeDeferred flown (nines 1) ≢ writes (0 ∷ [])
   -- `inflights_full` of a broken window: yes.
-  pub inflights-full-broken : fullLeaves brokenWindow flown (nines 1) ≢ writes (1 ∷ [])
+  pub inflights-full-broken : fullLeaves overfullWindow flown (nines 1) ≢ writes (1 ∷ [])
   -- `inflights_count` of three flights, cap 4: the cap.
   pub inflights-count-cap : countLeaves threeFlights flown (nines 1) ≢ writes (4 ∷ [])
   -- `inflights_count` of a broken window: its count.
-  pub inflights-count-broken : countLeaves brokenWindow flown (nines 1) ≢ writes (5 ∷ [])
+  pub inflights-count-broken : countLeaves overfullWindow flown (nines 1) ≢ writes (5 ∷ [])

@@ -1,18 +1,12 @@
 -- Laws of counting.
-use Prim.Native.Nat.{ℕ, suc, _≤_, _<_}
+use Prim.Native.Nat.{ℕ, suc, _≤_}
 use mathlib.Core.Path.{_≡_, refl, ap, _∙_}
 use mathlib.Core.Bool.{Bool, true, false}
 use mathlib.Core.List.{List, [], _∷_, map}
-use mathlib.Core.Logic.{_⊎_, ⊎-swap}
 use native.Mathlib.Omega.{arith}
 use lib.ListN.{length}
 use Rattle.units.proofs.Cond.{both-ends}
-use Rattle.units.proofs.Numbers.{below-or-not}
 use Rattle.rules.specs.Count.{one-more-if, count, Reordered, none, keep, swap, then}
-
--- Of two numbers, the first is at most the second, or above it.
-pub le-or-gt : (a b : ℕ) → (a ≤ b) ⊎ (b < a)
-le-or-gt a b = ⊎-swap (below-or-not b a)
 
 pub swap-ones : (a b : Bool) (n : ℕ) → one-more-if a (one-more-if b n) ≡ one-more-if b (one-more-if a n)
 swap-ones true true n = refl

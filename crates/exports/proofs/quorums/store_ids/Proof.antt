@@ -1,27 +1,27 @@
--- `store_ids` meets its contract: a turn stores one id more.
-use native.Mathlib.Numerals.{add-one}
+-- `store_ids` meets its contract: a turn copies one id more.
 use native.Mathlib.Omega.{arith}
-use mathlib.Core.Path.{_≡_, refl, sym, ap, _∙_}
-use mathlib.Core.List.{List}
-use Prim.Native.Nat.{ℕ, _+_, _-_, _≤_, _<_}
-use lib.ListN.{length, getD, set, drop, length-set}
-use lib.Seq.{sets, drop-cons, drop-length}
+use mathlib.Core.Path.{_≡_, sym, ap, _∙_}
+use mathlib.Core.List.{List, _++_}
+use Prim.Native.Nat.{ℕ, _+_, _-_, _≤_}
+use lib.ListN.{length, take, drop}
+use lib.Seq.{paste, sets, sets-eq, take-length}
+use Rattle.units.proofs.Copying.{Copying, copy-start, copy-next, copy-end}
 use Rattle.quorum.specs.Limits.{idLimit}
 use Rattle.exports.proofs.quorums.store_ids.Statement.{statement}
 use Rattle.exports.proofs.quorums.store_ids.Tie as tie
 
--- One store is the first of those that are left.
-one-more : (answer ids : List ℕ) (i : ℕ) → i < length ids → sets (set answer (i + 1) (getD ids i 0)) (i + 1 + 1) (drop (i + 1) ids) ≡ sets answer (i + 1) (drop i ids)
-one-more answer ids i h = rw (drop-cons ids i 0 h) (simp add-one)
+-- A whole list copied is each of its words stored.
+copied-stored : (to : List ℕ) (at : ℕ) (from : List ℕ) (n : ℕ) → n ≡ length from → at + length from ≤ length to → paste to at from n ≡ sets to at from
+copied-stored to at from n e h = ap (paste to at from) e ∙ ap (λ (words : List ℕ). take at to ++ words ++ drop (at + length from) to) (take-length from) ∙ sym (sets-eq from to at h)
 
 abbrev Inv-loop : tie.InvT-loop
-Inv-loop answer₀ ids i₀ answer i = (i ≤ idLimit) × (length answer ≡ length answer₀) × (sets answer (i + 1) (drop i ids) ≡ sets answer₀ 1 ids)
+Inv-loop answer₀ ids i₀ answer i = Copying answer₀ 1 ids answer idLimit i
 
 abbrev μ-loop : tie.MeasureT-loop
 μ-loop answer₀ ids i₀ answer i = idLimit - i
 
 loop-holds : tie.Need-loop-holds Inv-loop μ-loop
-loop-holds c = (omega arith, refl, refl)
+loop-holds c = copy-start _ _ _ _
 
 mul-answer : tie.Need-mul-answer Inv-loop μ-loop
 mul-answer c = omega arith
@@ -45,16 +45,13 @@ loop-less : tie.Need-loop-less Inv-loop μ-loop
 loop-less c = omega arith
 
 loop-again : tie.Need-loop-again Inv-loop μ-loop
-loop-again c = let at-loop = c .before in (omega arith, simp length-set (at-loop .loop .inv .1), one-more (at-loop .loop .answer) (at-loop .before .args .t2) (at-loop .loop .i) (omega arith) ∙ at-loop .loop .inv .2)
+loop-again c = copy-next (c .before .loop .inv) (omega arith) (omega arith) (omega arith)
 
 same-length : tie.Need-same-length Inv-loop μ-loop
-same-length c = omega arith
+same-length c = c .before .loop .inv .long
 
 returns : tie.Need-returns Inv-loop μ-loop
-returns c =
-    let ids = c .before .before .args .t2 in
-    let e : c .before .loop .i ≡ length ids = omega arith in
-    sym (ap (sets (c .before .loop .answer) (c .before .loop .i + 1)) (ap (λ (n : ℕ). drop n ids) e ∙ drop-length ids)) ∙ c .before .loop .inv .2
+returns c = copy-end (c .before .loop .inv) (omega arith) ∙ copied-stored _ 1 (c .before .before .args .t2) idLimit (omega arith) (omega arith)
 
 pub store-ids-spec : {M : Type 1} → statement M
 store-ids-spec =

@@ -6,14 +6,11 @@ use Rattle.exports.proofs.quorums.write_committed.Tie as tie
 enum-known-said : tie.Need-enum-known-said
 enum-known-said c = search needs
 
-slice-write-answer : tie.Need-slice-write-answer
-slice-write-answer c = search needs
-
 flag-requires : tie.Need-flag-requires
 flag-requires c κs = search needs
 
-slice-write-answer-2 : tie.Need-slice-write-answer-2
-slice-write-answer-2 c = search needs
+store-pair-requires : tie.Need-store-pair-requires
+store-pair-requires c κs = search needs
 
 enum-known-said-2 : tie.Need-enum-known-said-2
 enum-known-said-2 c = search needs
@@ -22,7 +19,9 @@ same-length : tie.Need-same-length
 same-length c = search needs
 
 returns : tie.Need-returns
-returns c = rw (c .before .before .said .given .1, c .flag .ensures)
+returns c =
+    let at-pair = c .before .before in
+    rw (at-pair .before .before .before .before .said .given .1, at-pair .store-pair .ensures, at-pair .before .flag .ensures)
 
 returns-2 : tie.Need-returns-2
 returns-2 c = rw (c .before .said2 .given .1)
@@ -32,9 +31,8 @@ write-committed-spec =
     tie.close
     (tie.spec
     enum-known-said
-    slice-write-answer
     flag-requires
-    slice-write-answer-2
+    store-pair-requires
     enum-known-said-2
     same-length
     returns

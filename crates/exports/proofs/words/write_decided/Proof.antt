@@ -9,11 +9,17 @@ enum-known-said c = search needs
 store-requires : tie.Need-store-requires
 store-requires c κs = search needs
 
+flag-requires : tie.Need-flag-requires
+flag-requires c κs = search needs
+
 slice-write-answer : tie.Need-slice-write-answer
 slice-write-answer c = search needs
 
 enum-told : tie.Need-enum-told
 enum-told c = search needs
+
+flag-requires-2 : tie.Need-flag-requires-2
+flag-requires-2 c κs = search needs
 
 slice-write-answer-2 : tie.Need-slice-write-answer-2
 slice-write-answer-2 c = search needs
@@ -29,14 +35,14 @@ same-length-2 c = search needs
 
 returns : tie.Need-returns
 returns c =
-    let w = c .before .before in
-    rw (w .before .before .before .said .given .1, w .store .ensures)
+    let at-store = c .before .before .before in
+    rw (at-store .before .before .before .said .given .1, at-store .store .ensures, c .flag .ensures)
 
 same-length-3 : tie.Need-same-length-3
 same-length-3 c = search needs
 
 returns-2 : tie.Need-returns-2
-returns-2 c = rw (c .enum-told .given .1)
+returns-2 c = rw (c .before .enum-told .given .1, c .flag2 .ensures)
 
 returns-3 : tie.Need-returns-3
 returns-3 c = rw (c .before .said2 .given .1)
@@ -47,8 +53,10 @@ write-decided-spec =
     (tie.spec
     enum-known-said
     store-requires
+    flag-requires
     slice-write-answer
     enum-told
+    flag-requires-2
     slice-write-answer-2
     enum-known-said-2
     same-length

@@ -1,15 +1,15 @@
--- `voting` is safe and ends: the loop stays within the list.
+-- `table` is safe and ends: the loop stays within the list.
 use borrow.Author.Needs.{needs}
 use Prim.Native.Nat.{_-_, _≤_}
 use lib.ListN.{length}
-use Rattle.cases.proofs.quorums.voting.Statement.{statement}
-use Rattle.cases.proofs.quorums.voting.Tie as tie
+use Rattle.cases.proofs.quorums.table.Statement.{statement}
+use Rattle.cases.proofs.quorums.table.Tie as tie
 
 abbrev Inv-loop : tie.InvT-loop
-Inv-loop votes table₀ i₀ table i = i ≤ length votes
+Inv-loop question said table₀ i₀ table i = i ≤ length said
 
 abbrev μ-loop : tie.MeasureT-loop
-μ-loop votes table₀ i₀ table i = length votes - i
+μ-loop question said table₀ i₀ table i = length said - i
 
 empty-requires : tie.Need-empty-requires Inv-loop μ-loop
 empty-requires c κs = search needs
@@ -17,14 +17,17 @@ empty-requires c κs = search needs
 loop-holds : tie.Need-loop-holds Inv-loop μ-loop
 loop-holds c = search needs
 
-shared-slice-read-vote : tie.Need-shared-slice-read-vote Inv-loop μ-loop
-shared-slice-read-vote c = search needs
+mul-word : tie.Need-mul-word Inv-loop μ-loop
+mul-word c = search needs
 
-vote-requires : tie.Need-vote-requires Inv-loop μ-loop
-vote-requires c κs = search needs
+shared-slice-read-word : tie.Need-shared-slice-read-word Inv-loop μ-loop
+shared-slice-read-word c = search needs
 
 add-i : tie.Need-add-i Inv-loop μ-loop
 add-i c = search needs
+
+saying-requires : tie.Need-saying-requires Inv-loop μ-loop
+saying-requires c κs = search needs
 
 with-requires : tie.Need-with-requires Inv-loop μ-loop
 with-requires c κs = search needs
@@ -38,17 +41,18 @@ loop-again c = search needs
 returns : tie.Need-returns Inv-loop μ-loop
 returns c = search needs
 
-pub voting-spec : {M : Type 1} → statement M
-voting-spec =
+pub table-spec : {M : Type 1} → statement M
+table-spec =
     tie.close
     (tie.spec
     Inv-loop
     μ-loop
     empty-requires
     loop-holds
-    shared-slice-read-vote
-    vote-requires
+    mul-word
+    shared-slice-read-word
     add-i
+    saying-requires
     with-requires
     loop-less
     loop-again
