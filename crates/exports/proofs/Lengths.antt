@@ -6,7 +6,7 @@ use Prim.Native.Nat.{ℕ, _≤_, _<_}
 use lib.ListN.{length}
 use borrow.Author.Tests.{lt-ltb, le-ltb}
 use Rattle.units.specs.Refusals.{brokenState}
-use Rattle.raft_log.proofs.Searching.{below-or-not}
+use Rattle.units.proofs.Numbers.{below-or-not}
 use Rattle.exports.specs.Words.{Outcome, leaves, unlessShort}
 
 module _ (slice : List ℕ) (words : ℕ) (slices : List (List ℕ)) (out : Outcome) where

@@ -14,8 +14,8 @@ use Rattle.raft_log.specs.Words.{room, putRun}
 use Rattle.raft_log.specs.State.{Good, lastOf}
 use Rattle.raft_log.specs.Append.{cutLog}
 use Rattle.log_laws.specs.View.{storeEntry, runEntry, listed, records, view-of}
-use Rattle.raft_log.proofs.Searching.{below-or-not}
 use Rattle.log_laws.proofs.Views.{length-listed, take-listed, listed-two, put-below, put-inside}
+use Rattle.units.proofs.Numbers.{below-or-not}
 
 -- numbers, apart so that few are in reach
 seam : (n o s c : ℕ) → n ≡ o - 1 - s → s < o → o ≤ c → n + (c - o) ≡ c - s - 1

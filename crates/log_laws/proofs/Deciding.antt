@@ -8,6 +8,7 @@ use native.Mathlib.Omega.{arith}
 use borrow.Author.Tests.{lt-ltb, le-ltb}
 use lib.Dec.{eqb, leb, ltb}
 use Rattle.units.specs.Refusals.{noRoom, outOfRange, notPending}
+use Rattle.units.proofs.Numbers.{below-or-not}
 use Rattle.rules.specs.Log.{Log as Abstract, last, term-of}
 use Rattle.raft_log.specs.declared.Log.{Log}
 use Rattle.raft_log.specs.declared.Changed.the-variants as changed
@@ -17,7 +18,6 @@ use Rattle.raft_log.specs.State.{Good, broken, lastOf, termAt}
 use Rattle.raft_log.specs.Append.{withCommitted}
 use Rattle.raft_log.specs.Commit.{withApplied, withPersisted, commitTo, appliedTo, maybeCommit, maybePersist}
 use Rattle.raft_log.specs.Settle.{settledLog, settleAnswer}
-use Rattle.raft_log.proofs.Searching.{below-or-not}
 use Rattle.raft_log.proofs.States.{good-whole, term-settled}
 use Rattle.log_laws.specs.View.{view-of}
 use Rattle.log_laws.proofs.Views.{view-last, view-start, held-term}

@@ -12,6 +12,7 @@ use Rattle.units.specs.declared.Term.{Term}
 use Rattle.units.specs.Units.{indexOf, termOf}
 use Rattle.units.proofs.Cond.{either-end, both-ends, past}
 use Rattle.units.proofs.Never.{never}
+use Rattle.units.proofs.Numbers.{below-or-not}
 use Rattle.rules.specs.Log.{last, term-of}
 use Rattle.raft_log.specs.declared.Log.{Log}
 use Rattle.raft_log.specs.declared.Looked.the-variants as looked
@@ -21,7 +22,6 @@ use Rattle.raft_log.specs.declared.Told.the-variants as told
 use Rattle.raft_log.specs.declared.ByTerm.the-variants as byterm
 use Rattle.raft_log.specs.State.{Good, broken, lastOf, termAt}
 use Rattle.raft_log.specs.Look.{lookTerm, lookFirst, lookLast, lookLastTerm, lookCommit, lookUpToDate, lastDown, atMost, foundAt, byTermIn, byTerm}
-use Rattle.raft_log.proofs.Searching.{below-or-not}
 use Rattle.raft_log.proofs.States.{good-whole, zero-start, term-below, term-start}
 use Rattle.log_laws.specs.View.{view-of}
 use Rattle.log_laws.specs.Looking.{FoundBelow}

@@ -17,6 +17,7 @@ use Rattle.units.specs.declared.Index.{Index}
 use Rattle.units.specs.Refusals.{outsideLog, mismatch}
 use Rattle.units.proofs.Cond.{both-ends, past}
 use Rattle.units.proofs.Never.{never}
+use Rattle.units.proofs.Numbers.{below-or-not}
 use Rattle.raft_log.specs.declared.Log.{Log}
 use Rattle.raft_log.specs.declared.Appended.{Appended}
 use Rattle.raft_log.specs.declared.Appended.the-variants.{Done, Refused}
@@ -26,7 +27,7 @@ use Rattle.raft_log.specs.Run.{misnumbered, zeroTermIn, zeroAt, termsSet}
 use Rattle.raft_log.specs.Append.{cuts, accepted, decide, matchRun, appendAnswer, outside, mismatched, differs, cutIf, commitUp, afterMessage, overfull, appendStore}
 use Rattle.log_laws.specs.View.{runEntry, listed, runEntries, view-of, messageOf}
 use Rattle.raft_log.proofs.States.{refuted, neither, whole-good, no-term}
-use Rattle.raft_log.proofs.Searching.{below-or-not, found}
+use Rattle.raft_log.proofs.Searching.{found}
 use Rattle.raft_log.proofs.Conflicts.{alike-held}
 use Rattle.raft_log.proofs.Appending.{no-done, other-refusal, done-passed}
 use Rattle.log_laws.proofs.Cutting.{view-cut}

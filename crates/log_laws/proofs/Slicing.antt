@@ -11,6 +11,7 @@ use Rattle.units.specs.Units.{indexOf, wordMax}
 use Rattle.units.specs.Refusals.{brokenState}
 use Rattle.units.specs.declared.Index.{Index}
 use Rattle.units.proofs.Cond.{either-end}
+use Rattle.units.proofs.Numbers.{below-or-not}
 use Rattle.rules.specs.Log.{Log as Abstract, last}
 use Rattle.raft_log.specs.declared.Log.{Log}
 use Rattle.raft_log.specs.declared.Bounds.{Bounds}
@@ -20,7 +21,6 @@ use Rattle.raft_log.specs.State.{Good, broken, lastOf}
 use Rattle.raft_log.specs.Slice.{inStore, sliceIn, sliceBounds, entriesBounds, nextLow, nextHigh, hasNext, hasNextSince, nextBounds, storePart, partOf}
 use Rattle.log_laws.specs.View.{storeEntry, view-of}
 use Rattle.log_laws.specs.Slicing.{Reads, Askable, Part, Gives}
-use Rattle.raft_log.proofs.Searching.{below-or-not}
 use Rattle.raft_log.proofs.States.{good-whole, whole-good, not-both, refuted}
 use Rattle.raft_log.proofs.Slices.{none-between, in-pending, slice-inside, next-test, next-true, entries-none, next-none}
 use Rattle.log_laws.proofs.Views.{view-start, view-last, entry-settled, entry-pending}

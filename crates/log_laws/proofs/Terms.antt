@@ -9,6 +9,7 @@ use borrow.Author.Tests.{eqb-false, not-false}
 use lib.Dec.{eqb}
 use lib.ListN.{length, take}
 use Rattle.units.proofs.Cond.{either-end}
+use Rattle.units.proofs.Numbers.{below-or-not}
 use Rattle.rules.specs.Log.{Entry, Log as Abstract, last, term-of}
 use Rattle.raft_log.specs.declared.Log.{Log}
 use Rattle.raft_log.specs.declared.Changed.{Changed}
@@ -28,7 +29,7 @@ use Rattle.raft_log.specs.Commit.{commitTo, appliedTo, maybeCommit, maybePersis
 use Rattle.raft_log.specs.Settle.{settleAnswer, settleStore}
 use Rattle.raft_log.specs.Setup.{setupOk, settledZero, setupAnswer}
 use Rattle.raft_log.proofs.States.{no-term, zero-start}
-use Rattle.raft_log.proofs.Searching.{below-or-not, none-below}
+use Rattle.raft_log.proofs.Searching.{none-below}
 use Rattle.raft_log.proofs.Extending.{last-allowed}
 use Rattle.raft_log.proofs.Appending.{done-passed}
 use Rattle.log_laws.specs.View.{storeEntry, runEntry, listed, runEntries, view-of, messageOf}

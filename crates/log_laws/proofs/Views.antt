@@ -9,13 +9,13 @@ use borrow.Author.Tests.{lt-ltb, le-ltb}
 use lib.ListN.{length, getD, set, take, drop, length-append, length-set, List·getD-append, List·getD-eq-default}
 use lib.Seq.{getD-append-add, sets, length-sets, getD-set-same, getD-set-other, getD-take, getD-drop, paste, length-take-le, length-paste-head}
 use Rattle.units.proofs.Cond.{both-ends}
+use Rattle.units.proofs.Numbers.{below-or-not}
 use Rattle.rules.specs.Log.{Entry, entry, nothing, Log as Abstract, last, entry-at, term-of}
 use Rattle.raft_log.specs.declared.Log.{Log}
 use Rattle.raft_log.specs.Words.{recordWords, room, putRecord, putRun, recordOf}
 use Rattle.raft_log.specs.State.{Good, lastOf, termAt}
 use Rattle.log_laws.specs.View.{storeEntry, runEntry, listed, records, view-of}
 use Rattle.raft_log.proofs.States.{term-below, term-start, term-settled, term-pending, term-beyond}
-use Rattle.raft_log.proofs.Searching.{below-or-not}
 
 pub same? : (a b : ℕ) → (a ≡ b) ⊎ (a ≡ b → ⊥)
 same? a b =

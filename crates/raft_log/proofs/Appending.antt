@@ -19,10 +19,11 @@ use Rattle.raft_log.specs.State.{Good, broken, termAt, lastOf}
 use Rattle.raft_log.specs.Run.{misnumbered, zeroTermIn, checkRun}
 use Rattle.raft_log.specs.Append.{withPending, withCommitted, afterMessage, outside, mismatched, cuts, overfull, differs, conflictOf, accepted, decide, matchRun, appendAnswer, appendStore}
 use Rattle.raft_log.proofs.States.{not-both, no-term}
-use Rattle.raft_log.proofs.Searching.{same-not, other-not, below-or-not}
+use Rattle.raft_log.proofs.Searching.{same-not, other-not}
 use Rattle.raft_log.proofs.Runs.{run-passed, run-refused, numbered-rises}
 use Rattle.units.proofs.Cond.{past}
 use Rattle.units.proofs.Never.{never}
+use Rattle.units.proofs.Numbers.{below-or-not}
 
 -- ---- the decision
 

@@ -12,7 +12,8 @@ use Rattle.raft_log.specs.State.{Good, lastOf, termAt}
 use Rattle.raft_log.specs.Run.{zeroAt}
 use Rattle.raft_log.specs.Append.{differs}
 use Rattle.raft_log.proofs.States.{not-both, term-settled, term-pending, no-term}
-use Rattle.raft_log.proofs.Searching.{Found, found, found-is, none-below, same-not, other-not, below-or-not}
+use Rattle.raft_log.proofs.Searching.{Found, found, found-is, none-below, same-not, other-not}
+use Rattle.units.proofs.Numbers.{below-or-not}
 
 -- the previous record is held, and the run's n terms are set
 pub record Held (l : Log) (settled pending : List ℕ) (idx : ℕ) (run : List ℕ) (n : ℕ) : Type 0 where

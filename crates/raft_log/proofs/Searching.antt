@@ -4,9 +4,10 @@ use mathlib.Core.Bool.{Bool, true, false, not, cond}
 use mathlib.Core.Logic.{_⊎_, ⊎-elim, inl, inr}
 use Prim.Native.Nat.{ℕ, zero, suc, _+_, _-_, _≤_, _<_}
 use native.Mathlib.Omega.{arith}
-use lib.Dec.{eqb, ltb}
-use borrow.Author.Tests.{eq-eqb, ne-eqb, ltb-true, ltb-false, eqb-true}
+use lib.Dec.{eqb}
+use borrow.Author.Tests.{eq-eqb, ne-eqb, eqb-true}
 use Rattle.units.proofs.Cond.{either-end}
+use Rattle.units.proofs.Numbers.{below-or-not}
 use Rattle.raft_log.specs.Words.{firstFrom, none}
 use Rattle.raft_log.proofs.States.{not-both}
 
@@ -19,9 +20,6 @@ other-not h = ap not (ne-eqb _ _ h)
 hit-or-not : (b : Bool) → (b ≡ true) ⊎ (b ≡ false)
 hit-or-not true = inl refl
 hit-or-not false = inr refl
-
-pub below-or-not : (a b : ℕ) → (a < b) ⊎ (b ≤ a)
-below-or-not a b = ⊎-elim (λ t. inl (ltb-true _ _ t)) (λ f. inr (ltb-false _ _ f)) (hit-or-not (ltb a b))
 
 -- the search below n for the first position that p holds of has passed every position below k
 pub record Seek (p : ℕ → Bool) (n k : ℕ) : Type 0 where

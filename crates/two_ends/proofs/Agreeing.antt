@@ -6,8 +6,8 @@ use mathlib.Core.Logic.{⊎-elim}
 use native.Mathlib.Omega.{arith}
 use lib.ListN.{length, getD}
 use Rattle.rules.specs.Log.{Entry, nothing, Log, last, entry-at, term-of, Holds, Same, Matching, Agree}
-use Rattle.raft_log.proofs.Searching.{below-or-not}
 use Rattle.two_ends.proofs.Received.{Received}
+use Rattle.units.proofs.Numbers.{below-or-not}
 
 -- Logs that agree up to k agree up to every index that is held before it.
 pub agree-down : (a b : Log) (j k : ℕ) → a .start ≤ j → j ≤ k → Agree a b k → Agree a b j

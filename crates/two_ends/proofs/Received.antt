@@ -14,7 +14,8 @@ use Rattle.rules.specs.Receiver.{contains, conflicts, delete-from, step-3, step
 use Rattle.rules.proofs.Receiver.{contains-holds, conflict-at, step-3-keeps, step-3-deletes, delete-none, cut-on, cut-length, steps}
 use Rattle.raft_log.specs.Words.{firstFrom}
 use Rattle.raft_log.proofs.States.{split}
-use Rattle.raft_log.proofs.Searching.{found, below-or-not}
+use Rattle.raft_log.proofs.Searching.{found}
+use Rattle.units.proofs.Numbers.{below-or-not}
 
 pub record Received (l : Log) (idx : ℕ) (es : List Entry) (after : Log) : Type 0 where
   -- the first record that is the message's: its first that differs from the one held, or the one after the last held

@@ -11,6 +11,7 @@ use Rattle.units.specs.Units.{indexLimit}
 use Rattle.units.specs.declared.Index.{Index}
 use Rattle.units.proofs.Cond.{taken as first-end}
 use Rattle.units.proofs.Never.{never}
+use Rattle.units.proofs.Numbers.{below-or-not}
 use Rattle.rules.specs.Log.{Entry, nothing, Log as Abstract, whole-list, last, entry-at, term-of, Matching, Agree}
 use Rattle.rules.specs.Receiver.{success, contains, receiver}
 use Rattle.rules.proofs.Receiver.{contains-holds, raised}
@@ -20,7 +21,7 @@ use Rattle.raft_log.specs.declared.Appended.the-variants as appended
 use Rattle.raft_log.specs.Words.{runCount, runTerm}
 use Rattle.raft_log.specs.State.{Good, termAt}
 use Rattle.raft_log.specs.Append.{differs, cuts, outside, mismatched, matchRun, appendAnswer}
-use Rattle.raft_log.proofs.Searching.{below-or-not, found, same-not}
+use Rattle.raft_log.proofs.Searching.{found, same-not}
 use Rattle.raft_log.proofs.States.{split, refuted, not-both, neither, good-whole}
 use Rattle.log_laws.specs.View.{runEntry, runEntries}
 use Rattle.log_laws.specs.Keep.{NonzeroTerms}
