@@ -1,7 +1,7 @@
 -- The one search: what a loop that runs it keeps, and what the place found says of the places before it.
-use mathlib.Core.Path.{_≡_, refl, sym, ap, subst, _∙_}
+use mathlib.Core.Path.{_≡_, sym, ap, subst, _∙_}
 use mathlib.Core.Bool.{Bool, true, false, not, cond}
-use mathlib.Core.Logic.{_⊎_, ⊎-elim, inl, inr}
+use mathlib.Core.Logic.{_⊎_, ⊎-elim}
 use Prim.Native.Nat.{ℕ, zero, suc, _+_, _-_, _≤_, _<_}
 use native.Mathlib.Omega.{arith}
 use lib.Dec.{eqb}
@@ -16,10 +16,6 @@ same-not h = ap not (eq-eqb _ _ h)
 
 pub other-not : {a b : ℕ} → (a ≡ b → ⊥) → not (eqb a b) ≡ true
 other-not h = ap not (ne-eqb _ _ h)
-
-hit-or-not : (b : Bool) → (b ≡ true) ⊎ (b ≡ false)
-hit-or-not true = inl refl
-hit-or-not false = inr refl
 
 -- the search below n for the first position that p holds of has passed every position below k
 pub record Seek (p : ℕ → Bool) (n k : ℕ) : Type 0 where
