@@ -51,7 +51,7 @@ use Rattle.quorum.specs.declared.majority.Voters.{Voters}
 use Rattle.quorum.specs.declared.rows.Peer.{Peer}
 use Rattle.leader.specs.Leader.{commitFound, leaderCommit}
 use Rattle.inflights.specs.State.{sound, windowCheck, capCheck, isFull, roomCheck}
-use Rattle.inflights.specs.Calls.{windowUnless, fullUnless, countUnless, ringUnless, made, setCapCheck, capped, fullness, counted, addCheck, added, ringAfter, freedTo, freedFirst, cleared, rewound}
+use Rattle.inflights.specs.Calls.{windowUnless, fullUnless, countUnless, ringUnless, madeWindow, setCapCheck, capped, fullness, counted, addCheck, added, ringAfter, freedTo, freedFirst, cleared, rewound}
 use Rattle.inflights.specs.declared.Inflights.{Inflights}
 use Rattle.inflights.specs.declared.Answer.the-variants as window-answer
 use Rattle.inflights.specs.declared.Fullness.the-variants as fullness-is
@@ -342,8 +342,8 @@ full-tells : (answer : List ℕ) (b : Bool) → Answered fullness-is.Refused ful
 full-tells answer true = answers (λ n e. cc)
 full-tells answer false = answers (λ n e. cc)
 
-pub inflights-new-tells : (cap : ℕ) (ring window : List ℕ) → Tells window-answer.Refused (made cap (length ring)) (window ∷ []) (newWindowLeaves cap ring window)
-unfolding made
+pub inflights-new-tells : (cap : ℕ) (ring window : List ℕ) → Tells window-answer.Refused (madeWindow cap (length ring)) (window ∷ []) (newWindowLeaves cap ring window)
+unfolding madeWindow
 inflights-new-tells cap ring window = changes-tells window _ _ (cap-numbered cap (length ring))
 
 module _ (window ring : List ℕ) where

@@ -5,7 +5,7 @@ use mathlib.Core.Bool.{true, false, cond}
 use mathlib.Core.List.{List, [], _∷_}
 use lib.ListN.{length, getD}
 use lib.Dec.{eqb}
-use Rattle.inflights.specs.Calls.{made, capped, added, ringAfter, freedTo, freedFirst, cleared, rewound, fullness, counted}
+use Rattle.inflights.specs.Calls.{madeWindow, capped, added, ringAfter, freedTo, freedFirst, cleared, rewound, fullness, counted}
 use Rattle.inflights.specs.declared.Inflights.{Inflights}
 use Rattle.inflights.specs.declared.Deferred.{Deferred}
 use Rattle.inflights.specs.declared.Deferred.the-variants as deferred
@@ -72,7 +72,7 @@ changes window said = unlessShort window windowLength (window ∷ []) (windowLea
 
 -- `inflights_new`, which does not read the words of `window`.
 abbrev pub newWindowLeaves : ℕ → List ℕ → List ℕ → Outcome
-newWindowLeaves cap ring window = changes window (made cap (length ring))
+newWindowLeaves cap ring window = changes window (madeWindow cap (length ring))
 
 -- `inflights_set_cap`.
 abbrev pub setCapLeaves : List ℕ → List ℕ → ℕ → Outcome

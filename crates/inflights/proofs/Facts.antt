@@ -1,32 +1,18 @@
 -- What the tests of `State` say, as facts that omega reads, and back.
 use Prim.Native.Nat.{ℕ, _≤_, _<_, max}
 use mathlib.Core.Path.{_≡_, refl}
-use mathlib.Core.Bool.{Bool, true, false, not, _&&_, _||_}
+use mathlib.Core.Bool.{Bool, true, false, not, _||_, and-eq-true-iff}
 use native.Mathlib.Omega.{arith}
 use lib.Dec.{ltb, leb, eqb}
 use borrow.Author.Tests.{not-true, ltb-true, leb-true, eqb-true, eqb-false, lt-ltb, le-leb}
-use Rattle.units.specs.Refusals.{fineOr, bothChecks}
-use Rattle.units.specs.declared.Check.{Check}
-use Rattle.units.specs.declared.Check.the-variants.{Fine, Refused}
+use Rattle.units.specs.declared.Check.the-variants.{Fine}
+use Rattle.units.proofs.Checks.{holds, both-fine}
 use Rattle.units.proofs.Never.{never}
-use Rattle.inflights.specs.State.{startFits, deferredFits, sound, windowCheck, capCheck, isFull, reached, roomCheck, Waits, Sound}
+use Rattle.inflights.specs.State.{startFits, deferredFits, sound, windowCheck, capCheck, isFull, deferredReached, roomCheck, Waits, Sound}
 use Rattle.inflights.specs.Calls.{addCheck, setCapCheck}
 use Rattle.inflights.specs.declared.Deferred.{Deferred}
 use Rattle.inflights.specs.declared.Deferred.the-variants.{Nothing, Cap}
 use Rattle.inflights.specs.declared.Inflights.{Inflights}
-
--- A check that is fine says that its rule holds; two in a row, that both are.
-pub holds : (b : Bool) (m : ℕ) → fineOr b m ≡ Fine → b ≡ true
-holds true m e = refl
-holds false m e = let z : _≡_ {A = Check} (Refused m) Fine = e in cc
-
-pub both-fine : (a b : Check) → bothChecks a b ≡ Fine → (a ≡ Fine) × (b ≡ Fine)
-both-fine Fine b e = (refl, e)
-both-fine (Refused m) b e = let z : _≡_ {A = Check} (Refused m) Fine = e in (cc, cc)
-
-both : (a b : Bool) → (a && b) ≡ true → (a ≡ true) × (b ≡ true)
-both true b h = (refl, h)
-both false b h = let z : _≡_ {A = Bool} false true = h in (cc, cc)
 
 -- A start that fits lies in the ring, or is 0.
 start-by : (s n : ℕ) (b : Bool) → eqb s 0 ≡ b → (b || ltb s n) ≡ true → s < max n 1
@@ -40,7 +26,7 @@ by-start s n false e h = let z : s ≡ 0 → ⊥ = eqb-false s 0 e in lt-ltb s n
 waits-by : (d : Deferred) (count cap : ℕ) → deferredFits d count cap ≡ true → Waits d count cap
 unfolding deferredFits
 waits-by Nothing count cap h = tt
-waits-by (Cap c) count cap h = let a = both (ltb c cap) (ltb 0 count) h in (ltb-true _ _ (a .0), ltb-true _ _ (a .1))
+waits-by (Cap c) count cap h = let a = and-eq-true-iff (ltb c cap) (ltb 0 count) .0 h in (ltb-true _ _ (a .0), ltb-true _ _ (a .1))
 
 by-waits : (d : Deferred) (count cap : ℕ) → Waits d count cap → deferredFits d count cap ≡ true
 unfolding deferredFits
@@ -50,9 +36,9 @@ by-waits (Cap c) count cap h = simp (lt-ltb c cap (h .0), lt-ltb 0 count (h .1))
 sound-by : (w : Inflights) (n : ℕ) → sound w n ≡ true → Sound w n
 unfolding sound startFits
 sound-by w n h =
-    let a = both (leb (w .count) (w .cap)) _ h in
-    let b = both (leb (w .cap) n) _ (a .1) in
-    let c = both (startFits (w .start) n) _ (b .1) in
+    let a = and-eq-true-iff (leb (w .count) (w .cap)) _ .0 h in
+    let b = and-eq-true-iff (leb (w .cap) n) _ .0 (a .1) in
+    let c = and-eq-true-iff (startFits (w .start) n) _ .0 (b .1) in
     record {
       count-cap = leb-true _ _ (a .0);
       cap-ring = leb-true _ _ (b .0);
@@ -74,7 +60,7 @@ unfolding capCheck
 cap-fits cap n e = leb-true _ _ (holds (leb cap n) _ e)
 
 -- A window that has room is below its cap, since it is not above.
-pub not-full : (w : Inflights) → roomCheck w ≡ Fine → isFull w ≡ false
+not-full : (w : Inflights) → roomCheck w ≡ Fine → isFull w ≡ false
 unfolding roomCheck
 not-full w e = not-true (isFull w) (holds (not (isFull w)) _ e)
 
@@ -82,15 +68,15 @@ below-by : (a b : ℕ) (t u : Bool) → eqb a b ≡ t → (t || u) ≡ false →
 below-by a b true u e h l = let z : _≡_ {A = Bool} true false = h in never cc
 below-by a b false u e h l = let z : a ≡ b → ⊥ = eqb-false a b e in omega (arith, z)
 
-pub room-below : (w : Inflights) → roomCheck w ≡ Fine → w .count ≤ w .cap → w .count < w .cap
+room-below : (w : Inflights) → roomCheck w ≡ Fine → w .count ≤ w .cap → w .count < w .cap
 unfolding isFull
-room-below w e l = below-by (w .count) (w .cap) _ (reached (w .deferred) (w .count)) refl (not-full w e) l
+room-below w e l = below-by (w .count) (w .cap) _ (deferredReached (w .deferred) (w .count)) refl (not-full w e) l
 
 -- What has been tested where `add` writes, and where `set_cap` takes a cap.
 pub may-add : (w : Inflights) (n : ℕ) → addCheck w n ≡ Fine → (Sound w n) × (w .count < w .cap)
 unfolding addCheck
-may-add w n e = let a = both-fine (windowCheck w n) (roomCheck w) e in let s = window-sound w n (a .0) in (s, room-below w (a .1) (s .count-cap))
+may-add w n e = let a = both-fine (windowCheck w n) (roomCheck w) .0 e in let s = window-sound w n (a .0) in (s, room-below w (a .1) (s .count-cap))
 
 pub may-set-cap : (w : Inflights) (n cap : ℕ) → setCapCheck w n cap ≡ Fine → (Sound w n) × (cap ≤ n)
 unfolding setCapCheck
-may-set-cap w n cap e = let a = both-fine (windowCheck w n) (capCheck cap n) e in (window-sound w n (a .0), cap-fits cap n (a .1))
+may-set-cap w n cap e = let a = both-fine (windowCheck w n) (capCheck cap n) .0 e in (window-sound w n (a .0), cap-fits cap n (a .1))

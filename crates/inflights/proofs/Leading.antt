@@ -1,37 +1,39 @@
 -- How many flights in front are at most `to`, found by a walk: what holds after i of them, from the start to each end.
 use Prim.Native.Nat.{ℕ, zero, suc, _+_, _≤_, _<_}
 use mathlib.Core.Path.{_≡_, refl, sym, ap, _∙_, subst}
-use mathlib.Core.Bool.{Bool, true, false, cond}
-use mathlib.Core.List.{List}
+use mathlib.Core.Bool.{true, false}
+use mathlib.Core.List.{List, [], _∷_}
 use native.Mathlib.Omega.{arith}
 use borrow.Author.Count.{below-more}
 use borrow.Author.Tests.{le-leb, lt-leb}
 use lib.Dec.{leb}
 use lib.ListN.{length, getD}
-use Rattle.inflights.specs.Ring.{placeOf, values, flightAt, flightsFrom, leading, InRing}
+use Rattle.units.specs.Lists.{listed}
+use Rattle.units.proofs.Cond.{both-ends}
+use Rattle.units.proofs.Lists.{length-listed}
+use Rattle.inflights.specs.Ring.{placeOf, flightAt, flightsFrom, leading, InRing}
 use Rattle.inflights.proofs.Places.{place-in, place-zero, place-place}
 
-stops-at : (to c : ℕ) (f : ℕ → ℕ) (i : ℕ) → i ≤ c → ((k : ℕ) → k < i → f k ≤ to) → (i < c → to < f i) → i ≡ leading to (values c f)
-unfolding values leading
-stops-at to zero f zero h l r = refl
-stops-at to zero f (suc i) h l r = absurd (omega arith)
-stops-at to (suc c) f zero h l r = let a : leb (f 0) to ≡ false = lt-leb (f 0) to (r (omega arith)) in simp a
-stops-at to (suc c) f (suc i) h l r =
-    let a : leb (f 0) to ≡ true = le-leb (f 0) to (l 0 (omega arith)) in
-    simp a (ap suc (stops-at to c (λ k. f (suc k)) i (omega arith) (λ k p. l (suc k) (omega arith)) (λ p. r (omega arith))))
+stops-at : (to c : ℕ) (f : ℕ → ℕ) (k i : ℕ) → i ≤ c → ((j : ℕ) → j < k + i → f j ≤ to) → (i < c → to < f (k + i)) → i ≡ leading to (listed f k c)
+unfolding listed leading
+stops-at to zero f k zero h l r = refl
+stops-at to zero f k (suc i) h l r = absurd (omega arith)
+stops-at to (suc c) f k zero h l r =
+    let a : leb (f k) to ≡ false = lt-leb (f k) to (subst (λ (j : ℕ). to < f j) (omega arith) (r (omega arith))) in
+    simp a
+stops-at to (suc c) f k (suc i) h l r =
+    let a : leb (f k) to ≡ true = le-leb (f k) to (l k (omega arith)) in
+    simp a (ap suc (stops-at to c f (k + 1) i (omega arith) (λ j p. l j (omega arith)) (λ p. subst (λ (j : ℕ). to < f j) (omega arith) (r (omega arith)))))
 
-at-most-by : (b : Bool) (x c : ℕ) → x ≤ c → cond b (suc x) 0 ≤ suc c
-at-most-by true x c h = omega arith
-at-most-by false x c h = omega arith
-
-at-most : (to c : ℕ) (f : ℕ → ℕ) → leading to (values c f) ≤ c
-unfolding values leading
-at-most to zero f = omega arith
-at-most to (suc c) f = at-most-by (leb (f 0) to) _ c (at-most to c (λ k. f (suc k)))
+-- No more are in front than there are.
+leading-within : (to : ℕ) (l : List ℕ) → leading to l ≤ length l
+unfolding leading
+leading-within to [] = omega arith
+leading-within to (x ∷ xs) = let h = leading-within to xs in both-ends (λ n. n ≤ suc (length xs)) (leb x to) (omega arith) (omega arith)
 
 pub leading-at-most : (to start count : ℕ) (ring : List ℕ) → leading to (flightsFrom start count ring) ≤ count
 unfolding flightsFrom
-leading-at-most to start count ring = at-most to count (flightAt start ring)
+leading-at-most to start count ring = omega (arith, leading-within to (flightsFrom start count ring), length-listed (flightAt start ring) 0 count)
 
 -- After i flights: `at` is the place of the next, and all before it are at most `to`.
 pub record Walked (start count : ℕ) (ring : List ℕ) (to at i : ℕ) : Type 0 where
@@ -55,8 +57,8 @@ module _ (start count : ℕ) (ring : List ℕ) (to : ℕ) where
 
   pub walk-stops : (at i : ℕ) → Walked start count ring to at i → to < getD ring at 0 → i ≡ leading to (flightsFrom start count ring)
   unfolding flightsFrom
-  walk-stops at i w l = stops-at to count (flightAt start ring) i (w .within) (w .small) (λ _. subst (λ (p : ℕ). to < getD ring p 0) (w .here) l)
+  walk-stops at i w l = stops-at to count (flightAt start ring) 0 i (w .within) (λ j h. w .small j (omega arith)) (λ _. subst (λ (p : ℕ). to < getD ring p 0) (w .here ∙ ap (λ (j : ℕ). placeOf start j (length ring)) (omega arith)) l)
 
   pub walk-ends : (at i : ℕ) → Walked start count ring to at i → count ≤ i → i ≡ leading to (flightsFrom start count ring)
   unfolding flightsFrom
-  walk-ends at i w l = stops-at to count (flightAt start ring) i (w .within) (w .small) (λ h. absurd (omega arith))
+  walk-ends at i w l = stops-at to count (flightAt start ring) 0 i (w .within) (λ j h. w .small j (omega arith)) (λ h. absurd (omega arith))

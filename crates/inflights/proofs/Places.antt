@@ -1,12 +1,12 @@
 -- The ring's places: a remainder is a compare and a subtraction, two steps in a row are one, and different flights have different places.
 use Prim.Native.Nat.{ℕ, zero, suc, _+_, _-_, _≤_, _<_, _%_, max}
-use mathlib.Core.Path.{_≡_, refl, sym, ap, _∙_}
+use mathlib.Core.Path.{_≡_, sym, ap, _∙_}
 use mathlib.Core.Logic.{⊎-elim, _⊎_, inl, inr}
-use mathlib.Core.Bool.{Bool, true, false}
 use lib.Dec.{ltb}
 use borrow.Author.Tests.{ltb-true, ltb-false}
 use native.Mathlib.Nat.{zero-mod, mod-lt, mod-zero, mod-eq-of-lt, mod-eq-sub-mod, mod-add-mod}
 use native.Mathlib.Omega.{arith}
+use Rattle.units.proofs.Cond.{either-end}
 use Rattle.inflights.specs.Ring.{placeOf, InRing}
 
 pub place-in : (s i n : ℕ) → s < n → placeOf s i n < n
@@ -43,13 +43,12 @@ place-place s k j n = mod-add-mod (s + k) n j ∙ ap (λ (m : ℕ). m % n) (let 
 Turn : ℕ → ℕ → ℕ → ℕ → Type 0
 Turn s i n p = (p ≡ s + i) ⊎ (p + n ≡ s + i)
 
-turn-by : (s i n : ℕ) (b : Bool) → ltb (s + i) n ≡ b → s < n → i ≤ n → Turn s i n (placeOf s i n)
-unfolding Turn
-turn-by s i n true t h k = inl (place-low s i n (ltb-true _ _ t))
-turn-by s i n false t h k = let l = ltb-false (s + i) n t in inr (let e = place-high s i n h k l in omega arith)
-
 turn : (s i n : ℕ) → s < n → i ≤ n → Turn s i n (placeOf s i n)
-turn s i n h k = turn-by s i n _ refl h k
+unfolding Turn
+turn s i n h k =
+    either-end (λ (_ : ℕ). Turn s i n (placeOf s i n)) (ltb (s + i) n) {x = 0} {y = 1}
+    (λ t. inl (place-low s i n (ltb-true _ _ t)))
+    (λ t. let l = ltb-false (s + i) n t in let e = place-high s i n h k l in inr (omega arith))
 
 pub place-other : (s i j n : ℕ) → s < n → i < j → j < n → placeOf s i n ≡ placeOf s j n → ⊥
 unfolding Turn

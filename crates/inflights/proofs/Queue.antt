@@ -8,36 +8,37 @@ use mathlib.Core.Bool.{Bool, true, false, _||_, cond}
 use mathlib.Core.Logic.{_≢_, _⊎_, inl, inr}
 use mathlib.Core.List.{List, [], _∷_, _++_}
 use native.Mathlib.Omega.{arith}
-use native.Mathlib.Numerals.{add-one}
 use borrow.Author.Tests.{eqb-true, eqb-false, leb-true, leb-false}
 use lib.Dec.{leb, eqb}
 use lib.ListN.{length, getD, set, drop, length-set}
 use lib.Seq.{getD-set-same, getD-set-other}
 use Rattle.units.specs.declared.Check.{Check}
 use Rattle.units.specs.declared.Check.the-variants as check
+use Rattle.units.specs.Lists.{listed}
+use Rattle.units.proofs.Cond.{either-end, both-ends, past, taken}
+use Rattle.units.proofs.Checks.{unless-fine, either-answer, answered}
 use Rattle.units.proofs.Never.{never}
-use Rattle.inflights.specs.State.{windowCheck, capCheck, isFull, reached, emptyOf, Sound}
-use Rattle.inflights.specs.Ring.{placeOf, values, flightAt, flightsFrom, flights, leading}
-use Rattle.inflights.specs.Calls.{windowUnless, fullUnless, countUnless, ringUnless, made, withCap, setCapCheck, capped, fullness, counted, addCheck, oneMore, added, ringAfter, takenUp, takeUp, behind, freeTo, freedTo, freedFirst, nextCap, cleared, fromZero, rewind, rewound}
+use Rattle.units.proofs.Lists.{length-listed, same-listed, drop-listed, append-listed}
+use Rattle.inflights.specs.State.{windowCheck, capCheck, isFull, deferredReached, emptyOf, Sound}
+use Rattle.inflights.specs.Ring.{placeOf, flightAt, flightsFrom, flights, leading}
+use Rattle.inflights.specs.Calls.{windowUnless, fullUnless, countUnless, madeWindow, withCap, setCapCheck, capped, fullness, counted, addCheck, oneMore, added, ringAfter, takenUp, takeUp, behind, freeTo, freedTo, freedFirst, nextCap, cleared, fromZero, rewind, rewound}
 use Rattle.inflights.specs.Queue.{Frees, Reached, IsFull}
 use Rattle.inflights.specs.declared.Deferred.{Deferred}
 use Rattle.inflights.specs.declared.Deferred.the-variants.{Nothing, Cap}
 use Rattle.inflights.specs.declared.Inflights.{Inflights}
 use Rattle.inflights.specs.declared.Answer.{Answer}
 use Rattle.inflights.specs.declared.Answer.the-variants.{Now, Refused}
-use Rattle.inflights.specs.declared.Fullness.{Fullness}
 use Rattle.inflights.specs.declared.Fullness.the-variants as full-is
 use Rattle.inflights.specs.declared.Counted.{Counted}
 use Rattle.inflights.specs.declared.Counted.the-variants as count-is
 use Rattle.inflights.proofs.Facts.{may-add}
 use Rattle.inflights.proofs.Places.{place-in, place-place, place-other}
 use Rattle.inflights.proofs.Leading.{leading-at-most}
-use Rattle.inflights.proofs.Lists.{values-last, values-same, values-length, values-drop, leading-frees}
+use Rattle.inflights.proofs.Lists.{leading-frees}
 
 -- A call that answers a window has passed its check, and what then holds of the new window holds of the answer's.
 pub of-answer : (P : Inflights → Type 0) (c : Check) (u : Inflights) {v : Inflights} → (c ≡ check.Fine → P u) → windowUnless c u ≡ Now v → P v
-of-answer P check.Fine u h e = subst P (let z : u ≡ _ = cc in z) (h refl)
-of-answer P (check.Refused m) u {v} h e = let z : _≡_ {A = Answer} (Refused m) (Now v) = e in never cc
+of-answer P c u {v} h e = let a = answered Refused c (λ n z. never cc) e in subst P (let z : _≡_ {A = Answer} (Now u) (Now v) = a .1 in cc) (h (a .0))
 
 -- add
 module _ (w : Inflights) (ring : List ℕ) (f : ℕ) where
@@ -49,42 +50,31 @@ module _ (w : Inflights) (ring : List ℕ) (f : ℕ) where
   same-ring k = ap (λ (m : ℕ). getD (set ring at f) (placeOf (w .start) k m) 0) (length-set ring at f)
 
   written : Sound w (length ring) → w .count < w .cap → flightsFrom (w .start) (w .count + 1) (set ring at f) ≡ flights w ring ++ (f ∷ [])
-  unfolding flightsFrom
+  unfolding flightsFrom listed
   written s r =
       let n0 : w .start < length ring = omega (arith, s .start-ring, s .cap-ring) in
-      let others : values (w .count) (flightAt (w .start) (set ring at f)) ≡ values (w .count) (flightAt (w .start) ring) =
-      values-same (w .count) _ _ (λ k l. same-ring k ∙ getD-set-other ring at (placeOf (w .start) k (length ring)) f 0 (place-other (w .start) k (w .count) (length ring) n0 l (omega (arith, s .cap-ring)))) in
-      let here : flightAt (w .start) (set ring at f) (w .count) ≡ f = same-ring (w .count) ∙ getD-set-same ring at f 0 (place-in (w .start) (w .count) (length ring) n0) in
-      ap (λ (m : ℕ). values m (flightAt (w .start) (set ring at f))) (add-one (w .count)) ∙ values-last (w .count) _ ∙ (λ i. others i ++ (here i ∷ []))
-
-  last-by : (c : Check) → addCheck w (length ring) ≡ c → c ≡ check.Fine → flightsFrom (w .start) (w .count + 1) (ringUnless c ring (set ring at f)) ≡ flights w ring ++ (f ∷ [])
-  last-by check.Fine e g = let m = may-add w (length ring) e in written (m .0) (m .1)
-  last-by (check.Refused m) e g = let z : _≡_ {A = Check} (check.Refused m) check.Fine = g in never cc
+      let others : listed (flightAt (w .start) (set ring at f)) 0 (w .count) ≡ flights w ring =
+      same-listed _ _ 0 0 (w .count) (λ k l. same-ring (0 + k) ∙ getD-set-other ring at (placeOf (w .start) (0 + k) (length ring)) f 0 (place-other (w .start) (0 + k) (w .count) (length ring) n0 (omega arith) (omega (arith, s .cap-ring)))) in
+      let here : flightAt (w .start) (set ring at f) (0 + w .count) ≡ f =
+      ap (flightAt (w .start) (set ring at f)) (omega arith) ∙ same-ring (w .count) ∙ getD-set-same ring at f 0 (place-in (w .start) (w .count) (length ring) n0) in
+      append-listed (flightAt (w .start) (set ring at f)) 0 (w .count) 1 ∙ (λ i. others i ++ (here i ∷ []))
 
   pub add-puts-last : {v : Inflights} → added w (length ring) ≡ Now v → flights v (ringAfter w ring f) ≡ flights w ring ++ (f ∷ [])
   unfolding added ringAfter
-  add-puts-last e = of-answer (λ v. flights v (ringAfter w ring f) ≡ flights w ring ++ (f ∷ [])) (addCheck w (length ring)) (oneMore w) (λ g. last-by (addCheck w (length ring)) refl g) e
-
-  word-by : (c : Check) (j : ℕ) → j ≢ at → getD (ringUnless c ring (set ring at f)) j 0 ≡ getD ring j 0
-  word-by check.Fine j h = getD-set-other ring at j f 0 h
-  word-by (check.Refused m) j h = refl
-
-  length-by : (c : Check) → length (ringUnless c ring (set ring at f)) ≡ length ring
-  length-by check.Fine = length-set ring at f
-  length-by (check.Refused m) = refl
+  add-puts-last e = of-answer (λ v. flights v (ringAfter w ring f) ≡ flights w ring ++ (f ∷ [])) (addCheck w (length ring)) (oneMore w) (λ g. let m = may-add w (length ring) g in ap (flightsFrom (w .start) (w .count + 1)) (unless-fine (λ _. ring) (set ring at f) g) ∙ written (m .0) (m .1)) e
 
   -- every word but one stays, and no other is there
   pub add-writes-one-word : (j : ℕ) → j ≢ at → getD (ringAfter w ring f) j 0 ≡ getD ring j 0
   unfolding ringAfter
-  add-writes-one-word j h = word-by (addCheck w (length ring)) j h
+  add-writes-one-word j h = either-answer (λ _. ring) (λ l. getD l j 0 ≡ getD ring j 0) (addCheck w (length ring)) (λ _. getD-set-other ring at j f 0 h) (λ _ _. refl)
 
   pub add-keeps-length : length (ringAfter w ring f) ≡ length ring
   unfolding ringAfter
-  add-keeps-length = length-by (addCheck w (length ring))
+  add-keeps-length = either-answer (λ _. ring) (λ l. length l ≡ length ring) (addCheck w (length ring)) (λ _. length-set ring at f) (λ _ _. refl)
 
 -- no flights
 no-flights : (start count : ℕ) (ring : List ℕ) → count ≡ 0 → flightsFrom start count ring ≡ []
-unfolding flightsFrom values
+unfolding flightsFrom listed
 no-flights start zero ring e = refl
 no-flights start (suc count) ring e = absurd (omega arith)
 
@@ -92,9 +82,8 @@ still-none : (ring : List ℕ) (u v : Inflights) → u .count ≡ 0 → v .count
 still-none ring u v e d = no-flights (v .start) (v .count) ring d ∙ sym (no-flights (u .start) (u .count) ring e)
 
 -- a window that changes only where its queue is empty
-if-none : (ring : List ℕ) (u v : Inflights) (b : Bool) → eqb (u .count) 0 ≡ b → (u .count ≡ 0 → flights v ring ≡ flights u ring) → flights (cond b v u) ring ≡ flights u ring
-if-none ring u v true e h = h (eqb-true _ _ e)
-if-none ring u v false e h = refl
+if-none : (ring : List ℕ) (u v : Inflights) → (u .count ≡ 0 → flights v ring ≡ flights u ring) → flights (cond (eqb (u .count) 0) v u) ring ≡ flights u ring
+if-none ring u v h = either-end (λ x. flights x ring ≡ flights u ring) (eqb (u .count) 0) (λ e. h (eqb-true _ _ e)) (λ _. refl)
 
 taken-keeps : (ring : List ℕ) (u : Inflights) (d : Deferred) → u .count ≡ 0 → flights (takenUp u d) ring ≡ flights u ring
 taken-keeps ring u Nothing e = refl
@@ -102,15 +91,16 @@ taken-keeps ring u (Cap c) e = still-none ring u (emptyOf c) e refl
 
 take-up-keeps : (ring : List ℕ) (u : Inflights) → flights (takeUp u) ring ≡ flights u ring
 unfolding takeUp
-take-up-keeps ring u = if-none ring u (takenUp u (u .deferred)) _ refl (taken-keeps ring u (u .deferred))
+take-up-keeps ring u = if-none ring u (takenUp u (u .deferred)) (taken-keeps ring u (u .deferred))
 
 -- free
 module _ (w : Inflights) (ring : List ℕ) (to : ℕ) where
   without : (k : ℕ) → k ≤ w .count → flights (behind w k (length ring)) ring ≡ drop k (flights w ring)
   unfolding flightsFrom
   without k l =
-      values-same (w .count - k) _ _ (λ j p. ap (λ (m : ℕ). getD ring m 0) (place-place (w .start) k j (length ring)))
-      ∙ sym (values-drop k (w .count) (flightAt (w .start) ring) l)
+      same-listed _ _ 0 (0 + k) (w .count - k)
+      (λ j p. ap (λ (m : ℕ). getD ring m 0) (place-place (w .start) k (0 + j) (length ring) ∙ ap (λ (m : ℕ). placeOf (w .start) m (length ring)) (omega arith)))
+      ∙ sym (drop-listed (flightAt (w .start) ring) 0 (w .count) k l)
 
   free-drops : flights (freeTo w ring to) ring ≡ drop (leading to (flights w ring)) (flights w ring)
   unfolding freeTo
@@ -125,53 +115,50 @@ unfolding freedFirst
 free-first-frees w ring e = free-to-frees w ring (getD (flights w ring) 0 0) e
 
 -- the others
-cap-by : (w : Inflights) (ring : List ℕ) (cap : ℕ) (b c : Bool) → eqb (w .count) 0 ≡ c
-    → flights (cond b (record { start = w .start; count = w .count; cap = cap; deferred = Nothing }) (cond c (emptyOf cap) (record { start = w .start; count = w .count; cap = w .cap; deferred = Cap cap }))) ring ≡ flights w ring
-cap-by w ring cap true c e = refl
-cap-by w ring cap false true e = still-none ring w (emptyOf cap) (eqb-true _ _ e) refl
-cap-by w ring cap false false e = refl
+cap-keeps : (w : Inflights) (ring : List ℕ) (cap : ℕ) → flights (withCap w cap) ring ≡ flights w ring
+unfolding withCap
+cap-keeps w ring cap =
+    let Kept : Inflights → Type 0 = λ v. flights v ring ≡ flights w ring in
+    both-ends Kept (leb (w .cap) cap) refl
+    (either-end Kept (eqb (w .count) 0) (λ e. still-none ring w (emptyOf cap) (eqb-true _ _ e) refl) (λ _. refl))
 
 pub set-cap-keeps : (w : Inflights) (ring : List ℕ) (cap : ℕ) {v : Inflights} → capped w (length ring) cap ≡ Now v → flights v ring ≡ flights w ring
-unfolding capped withCap
-set-cap-keeps w ring cap e = of-answer (λ v. flights v ring ≡ flights w ring) (setCapCheck w (length ring) cap) (withCap w cap) (λ _. cap-by w ring cap (leb (w .cap) cap) _ refl) e
+unfolding capped
+set-cap-keeps w ring cap e = of-answer (λ v. flights v ring ≡ flights w ring) (setCapCheck w (length ring) cap) (withCap w cap) (λ _. cap-keeps w ring cap) e
 
 pub rewind-keeps : (w : Inflights) (ring : List ℕ) {v : Inflights} → rewound w (length ring) ≡ Now v → flights v ring ≡ flights w ring
 unfolding rewound rewind
-rewind-keeps w ring e = of-answer (λ v. flights v ring ≡ flights w ring) (windowCheck w (length ring)) (rewind w) (λ _. if-none ring w (fromZero w) _ refl (λ z. still-none ring w (fromZero w) z z)) e
+rewind-keeps w ring e = of-answer (λ v. flights v ring ≡ flights w ring) (windowCheck w (length ring)) (rewind w) (λ _. if-none ring w (fromZero w) (λ z. still-none ring w (fromZero w) z z)) e
 
 pub reset-empties : (w : Inflights) (ring : List ℕ) {v : Inflights} → cleared w (length ring) ≡ Now v → flights v ring ≡ []
 unfolding cleared
 reset-empties w ring e = of-answer (λ v. flights v ring ≡ []) (windowCheck w (length ring)) (emptyOf (nextCap w)) (λ _. no-flights 0 0 ring refl) e
 
-pub new-empty : (cap : ℕ) (ring : List ℕ) {v : Inflights} → made cap (length ring) ≡ Now v → flights v ring ≡ []
-unfolding made
+pub new-empty : (cap : ℕ) (ring : List ℕ) {v : Inflights} → madeWindow cap (length ring) ≡ Now v → flights v ring ≡ []
+unfolding madeWindow
 new-empty cap ring e = of-answer (λ v. flights v ring ≡ []) (capCheck cap (length ring)) (emptyOf cap) (λ _. no-flights 0 0 ring refl) e
 
 -- full and count
-pub flights-length : (w : Inflights) (ring : List ℕ) → length (flights w ring) ≡ w .count
+flights-length : (w : Inflights) (ring : List ℕ) → length (flights w ring) ≡ w .count
 unfolding flightsFrom
-flights-length w ring = values-length (w .count) (flightAt (w .start) ring)
+flights-length w ring = length-listed (flightAt (w .start) ring) 0 (w .count)
 
-full-by : (w : Inflights) (n : ℕ) (d : Deferred) (b : Bool) → eqb n (w .cap) ≡ b → (b || reached d n) ≡ true → (n ≡ w .cap) ⊎ Reached d n
+full-by : (w : Inflights) (n : ℕ) (d : Deferred) (b : Bool) → eqb n (w .cap) ≡ b → (b || deferredReached d n) ≡ true → (n ≡ w .cap) ⊎ Reached d n
 full-by w n d true e h = inl (eqb-true _ _ e)
 full-by w n (Cap c) false e h = inr (leb-true _ _ h)
 full-by w n Nothing false e h = let z : _≡_ {A = Bool} false true = h in never cc
 
-not-by : (w : Inflights) (n : ℕ) (d : Deferred) (b : Bool) → eqb n (w .cap) ≡ b → (b || reached d n) ≡ false → (n ≡ w .cap) ⊎ Reached d n → ⊥
+not-by : (w : Inflights) (n : ℕ) (d : Deferred) (b : Bool) → eqb n (w .cap) ≡ b → (b || deferredReached d n) ≡ false → (n ≡ w .cap) ⊎ Reached d n → ⊥
 not-by w n d true e h a = let z : _≡_ {A = Bool} true false = h in never cc
 not-by w n d false e h (inl a) = eqb-false _ _ e a
 not-by w n (Cap c) false e h (inr a) = let z : n < c = leb-false _ _ h in omega arith
 not-by w n Nothing false e h (inr a) = a
 
 told-full : (c : Check) (b : Bool) → fullUnless c b ≡ full-is.Full → b ≡ true
-told-full check.Fine true e = refl
-told-full check.Fine false e = let z : _≡_ {A = Fullness} full-is.NotFull full-is.Full = e in cc
-told-full (check.Refused m) b e = let z : _≡_ {A = Fullness} (full-is.Refused m) full-is.Full = e in cc
+told-full c b e = taken b (λ z. never cc) (answered full-is.Refused c (λ n z. never cc) e .1) .0
 
 told-not-full : (c : Check) (b : Bool) → fullUnless c b ≡ full-is.NotFull → b ≡ false
-told-not-full check.Fine false e = refl
-told-not-full check.Fine true e = let z : _≡_ {A = Fullness} full-is.Full full-is.NotFull = e in cc
-told-not-full (check.Refused m) b e = let z : _≡_ {A = Fullness} (full-is.Refused m) full-is.NotFull = e in cc
+told-not-full c b e = past b (λ z. never cc) (answered full-is.Refused c (λ n z. never cc) e .1) .0
 
 pub full-means : (w : Inflights) (ring : List ℕ) → fullness w (length ring) ≡ full-is.Full → IsFull w (length (flights w ring))
 unfolding fullness isFull
@@ -182,8 +169,7 @@ unfolding fullness isFull
 not-full-means w ring e f = not-by w (w .count) (w .deferred) _ refl (told-not-full (windowCheck w (length ring)) (isFull w) e) (subst (IsFull w) (flights-length w ring) f)
 
 told-count : (c : Check) (n : ℕ) {k : ℕ} → countUnless c n ≡ count-is.Is k → n ≡ k
-told-count check.Fine n e = cc
-told-count (check.Refused m) n {k} e = let z : _≡_ {A = Counted} (count-is.Refused m) (count-is.Is k) = e in cc
+told-count c n {k} e = let z : _≡_ {A = Counted} (count-is.Is n) (count-is.Is k) = answered count-is.Refused c (λ m z. never cc) e .1 in cc
 
 pub count-means : (w : Inflights) (ring : List ℕ) {k : ℕ} → counted w (length ring) ≡ count-is.Is k → length (flights w ring) ≡ k
 unfolding counted

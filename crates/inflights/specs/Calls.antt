@@ -1,12 +1,11 @@
 -- THE PROMISES: what each call answers. A reader must know: an answer is the first refusal of the call's checks, in order (13 before 7 and 11), else the new window; `ringAfter` is the ring that `add` leaves, and no other call can write it.
 use Prim.Native.Nat.{ℕ, _+_, _-_}
-use mathlib.Core.Bool.{Bool, true, false, cond}
+use mathlib.Core.Bool.{Bool, cond}
 use mathlib.Core.List.{List}
 use lib.ListN.{length, getD, set}
 use lib.Dec.{leb, eqb}
-use Rattle.units.specs.Refusals.{bothChecks}
+use Rattle.units.specs.Refusals.{bothChecks, unless}
 use Rattle.units.specs.declared.Check.{Check}
-use Rattle.units.specs.declared.Check.the-variants as check
 use Rattle.inflights.specs.State.{windowCheck, capCheck, roomCheck, isFull, emptyOf}
 use Rattle.inflights.specs.Ring.{placeOf, flights, leading}
 use Rattle.inflights.specs.declared.Deferred.{Deferred}
@@ -21,28 +20,23 @@ use Rattle.inflights.specs.declared.Counted.the-variants as count-is
 
 -- Document 01's values for each case of an answer with a window: "Every refusal returns its number alone and changes nothing."
 abbrev pub windowUnless : Check → Inflights → Answer
-windowUnless check.Fine w = answer.Now w
-windowUnless (check.Refused n) w = answer.Refused n
+windowUnless k w = unless answer.Refused k (answer.Now w)
 
 -- Document 01's values for each case of the answer of `full`: the refusal's number alone, or whether it is full.
 abbrev pub fullUnless : Check → Bool → Fullness
-fullUnless check.Fine true = fullness-is.Full
-fullUnless check.Fine false = fullness-is.NotFull
-fullUnless (check.Refused n) b = fullness-is.Refused n
+fullUnless k b = unless fullness-is.Refused k (cond b fullness-is.Full fullness-is.NotFull)
 
 -- Document 01's values for each case of the answer of `count`: the refusal's number alone, or the count.
 abbrev pub countUnless : Check → ℕ → Counted
-countUnless check.Fine count = count-is.Is count
-countUnless (check.Refused n) count = count-is.Refused n
+countUnless k count = unless count-is.Refused k (count-is.Is count)
 
 -- The ring after a call that writes: as it was beside a refusal, else as it was written.
 abbrev pub ringUnless : Check → List ℕ → List ℕ → List ℕ
-ringUnless check.Fine before written = written
-ringUnless (check.Refused n) before written = before
+ringUnless k before written = unless (λ _. before) k written
 
 -- THE PROMISE of `new`: no flights, nothing deferred.
-unfoldable pub made : ℕ → ℕ → Answer
-made cap n = windowUnless (capCheck cap n) (emptyOf cap)
+unfoldable pub madeWindow : ℕ → ℕ → Answer
+madeWindow cap n = windowUnless (capCheck cap n) (emptyOf cap)
 
 -- `set_cap`: "equal to the current cap cancels a deferred change; larger takes effect and cancels it; smaller takes effect if the queue is empty, else is deferred until it empties." Start becomes 0 "when `set_cap` shrinks an empty queue".
 unfoldable pub withCap : Inflights → ℕ → Inflights
@@ -59,7 +53,7 @@ setCapCheck w n cap = bothChecks (windowCheck w n) (capCheck cap n)
 unfoldable pub capped : Inflights → ℕ → ℕ → Answer
 capped w n cap = windowUnless (setCapCheck w n cap) (withCap w cap)
 
--- THE PROMISE of `full`.
+-- THE PROMISE of `full`: "count = cap, or a deferred cap exists and count is at least that".
 unfoldable pub fullness : Inflights → ℕ → Fullness
 fullness w n = fullUnless (windowCheck w n) (isFull w)
 
@@ -108,12 +102,12 @@ freedTo w ring to = windowUnless (windowCheck w (length ring)) (freeTo w ring to
 unfoldable pub freedFirst : Inflights → List ℕ → Answer
 freedFirst w ring = freedTo w ring (getD (flights w ring) 0 0)
 
--- The cap that an emptied queue has: the deferred one, where there is one.
+-- The cap that an emptied queue has: it "takes the deferred cap", where there is one.
 abbrev pub capOnEmpty : Deferred → ℕ → ℕ
 capOnEmpty Nothing cap = cap
 capOnEmpty (Cap c) cap = c
 
--- The same of a window.
+-- The cap of a window that is emptied: "Emptying takes up a deferred cap."
 abbrev pub nextCap : Inflights → ℕ
 nextCap w = capOnEmpty (w .deferred) (w .cap)
 

@@ -5,6 +5,7 @@ use mathlib.Core.Logic.{_≢_, _⊎_}
 use mathlib.Core.List.{List, [], _∷_, _++_}
 use lib.ListN.{length}
 use Rattle.units.specs.Refusals.{brokenWindow}
+use Rattle.units.specs.Lists.{Each}
 use Rattle.inflights.specs.Calls.{capped, fullness, counted, added, freedTo, freedFirst, cleared, rewound}
 use Rattle.inflights.specs.declared.Deferred.{Deferred}
 use Rattle.inflights.specs.declared.Deferred.the-variants.{Nothing, Cap}
@@ -15,8 +16,7 @@ use Rattle.inflights.specs.declared.Counted.the-variants as count-is
 
 -- Every flight of a list is at most `to`.
 unfoldable pub AllAtMost : ℕ → List ℕ → Type 0
-AllAtMost to [] = Unit {0}
-AllAtMost to (x ∷ xs) = (x ≤ to) × AllAtMost to xs
+AllAtMost to = Each (λ x. x ≤ to)
 
 -- A list is empty, or begins with a flight above `to`.
 unfoldable pub BeginsAbove : ℕ → List ℕ → Type 0

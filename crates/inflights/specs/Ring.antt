@@ -1,19 +1,15 @@
 -- The ring and the flights in it. A reader must know: the queue of a window and its ring is the list `flights`, its first flight first.
 use mathlib.Core.Bool.{cond}
-use Prim.Native.Nat.{ℕ, zero, suc, _+_, _≤_, _<_, _%_, max}
+use Prim.Native.Nat.{ℕ, suc, _+_, _≤_, _<_, _%_, max}
 use mathlib.Core.List.{List, [], _∷_}
 use lib.ListN.{length, getD}
 use lib.Dec.{leb}
+use Rattle.units.specs.Lists.{listed}
 use Rattle.inflights.specs.declared.Inflights.{Inflights}
 
 -- 01, "What must change shape": "The ring is used modulo its own length". The place i behind the start, in a ring of n words. (In an empty ring start and i are 0, and so is the place.)
 unfoldable pub placeOf : ℕ → ℕ → ℕ → ℕ
 placeOf start i n = (start + i) % n
-
--- The values f 0, f 1, .. of the first c numbers.
-unfoldable pub values : ℕ → (ℕ → ℕ) → List ℕ
-values zero f = []
-values (suc c) f = f 0 ∷ values c (λ k. f (suc k))
 
 -- The k-th flight, counted from 0.
 abbrev pub flightAt : ℕ → List ℕ → ℕ → ℕ
@@ -21,7 +17,7 @@ flightAt start ring k = getD ring (placeOf start k (length ring)) 0
 
 -- All of them, by where they start and how many they are.
 unfoldable pub flightsFrom : ℕ → ℕ → List ℕ → List ℕ
-flightsFrom start count ring = values count (flightAt start ring)
+flightsFrom start count ring = listed (flightAt start ring) 0 count
 
 -- 01, Inflights: "A queue of u64 flights." That of a window and its ring.
 abbrev pub flights : Inflights → List ℕ → List ℕ

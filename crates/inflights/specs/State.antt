@@ -30,13 +30,13 @@ unfoldable pub capCheck : ℕ → ℕ → Check
 capCheck cap n = fineOr (leb cap n) noRoom
 
 -- A deferred cap exists, and count is at least that.
-abbrev pub reached : Deferred → ℕ → Bool
-reached Nothing count = false
-reached (Cap c) count = leb c count
+abbrev pub deferredReached : Deferred → ℕ → Bool
+deferredReached Nothing count = false
+deferredReached (Cap c) count = leb c count
 
 -- 01, Inflights: "`full` is count = cap, or a deferred cap exists and count is at least that."
 unfoldable pub isFull : Inflights → Bool
-isFull w = eqb (w .count) (w .cap) || reached (w .deferred) (w .count)
+isFull w = eqb (w .count) (w .cap) || deferredReached (w .deferred) (w .count)
 
 -- 01, refusal 11: "`add` to a full window".
 unfoldable pub roomCheck : Inflights → Check

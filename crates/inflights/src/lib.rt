@@ -19,7 +19,7 @@ use crate::state::with_cap;
 use units::Check;
 ghost use mathlib.Core.Path.{_≡_};
 ghost use lib.ListN.{length};
-ghost use Rattle.inflights.specs.Calls.{made, capped, fullness, counted, added, ringAfter, freedTo, freedFirst, cleared, rewound};
+ghost use Rattle.inflights.specs.Calls.{madeWindow, capped, fullness, counted, added, ringAfter, freedTo, freedFirst, cleared, rewound};
 
 // A smaller cap that waits until the queue is empty (the crate's `incoming_cap`).
 pub enum Deferred {
@@ -64,7 +64,7 @@ pub struct Step {
 impl Inflights {
     // A window of no flights.
     pub fn new(cap: usize, ring: &[u64]) -> Answer
-        ensures { λ r. ⌜ r ≡ made cap (length (now (ring .entry))) ⌝ }
+        ensures { λ r. ⌜ r ≡ madeWindow cap (length (now (ring .entry))) ⌝ }
     {
         let check = cap_fits(cap, ring.len());
         let Check::Fine = check else {

@@ -6,7 +6,7 @@ use units::refusal::BROKEN_WINDOW;
 use units::refusal::NO_ROOM;
 use units::refusal::WINDOW_FULL;
 ghost use mathlib.Core.Path.{_≡_};
-ghost use Rattle.inflights.specs.State.{startFits, deferredFits, windowCheck, capCheck, reached, isFull, roomCheck, emptyOf};
+ghost use Rattle.inflights.specs.State.{startFits, deferredFits, windowCheck, capCheck, deferredReached, isFull, roomCheck, emptyOf};
 ghost use Rattle.inflights.specs.Calls.{withCap, takeUp, nextCap};
 
 // The start lies in a ring of n words, or is 0: an empty ring has start 0.
@@ -61,7 +61,7 @@ pub fn cap_fits(cap: usize, n: usize) -> Check
 
 // A deferred cap exists, and so many flights reach it.
 fn reaches(deferred: Deferred, count: usize) -> bool
-    ensures { λ r. ⌜ r ≡ reached deferred count ⌝ }
+    ensures { λ r. ⌜ r ≡ deferredReached deferred count ⌝ }
 {
     let Deferred::Cap(smaller) = deferred else {
         return false;

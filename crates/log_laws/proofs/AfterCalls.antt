@@ -10,6 +10,7 @@ use lib.ListN.{length, take}
 use lib.Seq.{paste}
 use Rattle.rules.specs.Receiver.{with-entries}
 use Rattle.units.specs.declared.Index.{Index}
+use Rattle.units.specs.Lists.{listed}
 use Rattle.raft_log.specs.declared.Log.{Log}
 use Rattle.raft_log.specs.declared.Changed.the-variants.{Now}
 use Rattle.raft_log.specs.declared.Extended.the-variants.{Last}
@@ -17,7 +18,7 @@ use Rattle.raft_log.specs.Words.{recordWords, room, runCount, putRun}
 use Rattle.raft_log.specs.State.{Good, lastOf}
 use Rattle.raft_log.specs.Extend.{firstOf, extendAnswer, extendStore}
 use Rattle.raft_log.specs.Settle.{settledLog, settleAnswer, settleStore}
-use Rattle.log_laws.specs.View.{storeEntry, listed, records, runEntries, view-of}
+use Rattle.log_laws.specs.View.{storeEntry, records, runEntries, view-of}
 use Rattle.raft_log.proofs.States.{whole-good}
 use Rattle.raft_log.proofs.Settling.{settle-room}
 use Rattle.raft_log.proofs.Extending.{InPlace, Allowed, last-allowed}

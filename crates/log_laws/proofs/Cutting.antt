@@ -7,15 +7,17 @@ use native.Mathlib.Omega.{arith}
 use native.Mathlib.Nat.{min-eq-left, min-eq-right, sub-right-comm}
 use lib.ListN.{take}
 use lib.Seq.{take-append-le, take-append-add}
+use Rattle.units.proofs.Lists.{same-listed, append-listed, length-listed, take-listed}
 use Rattle.rules.specs.Log.{Entry}
 use Rattle.rules.specs.Receiver.{with-entries}
 use Rattle.raft_log.specs.declared.Log.{Log}
 use Rattle.raft_log.specs.Words.{room, putRun}
 use Rattle.raft_log.specs.State.{Good, lastOf}
 use Rattle.raft_log.specs.Append.{cutLog}
-use Rattle.log_laws.specs.View.{storeEntry, runEntry, listed, records, view-of}
-use Rattle.log_laws.proofs.Views.{length-listed, take-listed, listed-two, put-below, put-inside}
+use Rattle.log_laws.specs.View.{storeEntry, runEntry, records, view-of}
+use Rattle.log_laws.proofs.Views.{listed-two, put-below, put-inside}
 use Rattle.units.proofs.Numbers.{below-or-not}
+use Rattle.units.specs.Lists.{listed}
 
 -- numbers, apart so that few are in reach
 seam : (n o s c : ℕ) → n ≡ o - 1 - s → s < o → o ≤ c → n + (c - o) ≡ c - s - 1

@@ -5,12 +5,13 @@ use mathlib.Core.Bool.{not}
 use mathlib.Core.List.{List, append-nil}
 use native.Mathlib.Omega.{arith}
 use Rattle.units.proofs.Cond.{past}
+use Rattle.units.specs.Lists.{listed}
 use Rattle.rules.specs.Log.{Entry, Log as Abstract}
 use Rattle.raft_log.specs.declared.Log.{Log}
 use Rattle.raft_log.specs.declared.Changed.the-variants as changed
 use Rattle.raft_log.specs.Setup.{fresh, setupOk, settledZero, setupAnswer}
 use Rattle.raft_log.proofs.Settling.{no-now}
-use Rattle.log_laws.specs.View.{listed, records, view-of}
+use Rattle.log_laws.specs.View.{records, view-of}
 
 module _ (start startterm last : ℕ) (settled pending : List ℕ) where
   abbrev held : List Entry → Abstract

@@ -5,13 +5,15 @@ use Prim.Native.Nat.{ℕ, zero, suc, _+_, _-_, _*_, _≤_, _<_}
 use native.Mathlib.Omega.{arith}
 use lib.ListN.{length, getD, take, drop, length-take, length-drop, length-append, List·getD-append}
 use lib.Seq.{drop-cons, getD-take, getD-drop, getD-append-add}
+use Rattle.units.specs.Lists.{listed}
+use Rattle.units.proofs.Lists.{same-listed, append-listed}
 use Rattle.rules.specs.Log.{Entry, nothing, Log as Abstract, last, entry-at}
 use Rattle.raft_log.specs.Words.{recordWords, room}
 use Rattle.raft_log.specs.Slice.{storePart}
-use Rattle.log_laws.specs.View.{storeEntry, listed, records}
+use Rattle.log_laws.specs.View.{storeEntry, records}
 use Rattle.log_laws.specs.Slicing.{recordsFrom, Reads}
 use Rattle.raft_log.proofs.Slices.{part-some}
-use Rattle.log_laws.proofs.Views.{same-listed, append-listed, listed-two, same-entry, entry-after}
+use Rattle.log_laws.proofs.Views.{listed-two, same-entry, entry-after}
 
 taken-listed : (es : List Entry) (k n : ℕ) → k + n ≤ length es → take n (drop k es) ≡ listed (λ (i : ℕ). getD es i nothing) k n
 unfolding listed

@@ -15,9 +15,11 @@ use Rattle.rules.proofs.Receiver.{contains-holds, conflict-at, step-3-keeps, st
 use Rattle.units.specs.Units.{indexOf}
 use Rattle.units.specs.declared.Index.{Index}
 use Rattle.units.specs.Refusals.{outsideLog, mismatch}
+use Rattle.units.specs.Lists.{listed}
 use Rattle.units.proofs.Cond.{both-ends, past}
 use Rattle.units.proofs.Never.{never}
 use Rattle.units.proofs.Numbers.{below-or-not}
+use Rattle.units.proofs.Lists.{length-listed, at-listed, drop-listed}
 use Rattle.raft_log.specs.declared.Log.{Log}
 use Rattle.raft_log.specs.declared.Appended.{Appended}
 use Rattle.raft_log.specs.declared.Appended.the-variants.{Done, Refused}
@@ -25,13 +27,13 @@ use Rattle.raft_log.specs.Words.{room, runCount, runTerm, firstFrom, putRun}
 use Rattle.raft_log.specs.State.{Good, lastOf, broken, termAt}
 use Rattle.raft_log.specs.Run.{misnumbered, zeroTermIn, zeroAt, termsSet}
 use Rattle.raft_log.specs.Append.{cuts, accepted, decide, matchRun, appendAnswer, outside, mismatched, differs, cutIf, commitUp, afterMessage, overfull, appendStore}
-use Rattle.log_laws.specs.View.{runEntry, listed, runEntries, view-of, messageOf}
+use Rattle.log_laws.specs.View.{runEntry, runEntries, view-of, messageOf}
 use Rattle.raft_log.proofs.States.{refuted, neither, whole-good, no-term}
 use Rattle.raft_log.proofs.Searching.{found}
 use Rattle.raft_log.proofs.Conflicts.{alike-held}
 use Rattle.raft_log.proofs.Appending.{no-done, other-refusal, done-passed}
 use Rattle.log_laws.proofs.Cutting.{view-cut}
-use Rattle.log_laws.proofs.Views.{same?, length-listed, at-listed, drop-listed, view-last, view-term}
+use Rattle.log_laws.proofs.Views.{same?, view-last, view-term}
 
 -- ---- step 2
 
@@ -113,7 +115,7 @@ module _ (l : Log) (settled pending : List ℕ) (good : Good l settled pending) 
       → conflict-at v (idx + 1) es j ≡ (ltb (l .start .0) (idx + 1 + j) && leb (idx + 1 + j) (lastOf l) && differs l settled pending idx run j)
   unfolding view-of
   conflict-is j h =
-      let same : getD es j nothing ≡ runEntry run j = at-listed (runEntry run) 0 n j h ∙ ap (runEntry run) (omega arith) in
+      let same : getD es j nothing ≡ runEntry run j = at-listed (runEntry run) 0 n j nothing h ∙ ap (runEntry run) (omega arith) in
       ap (λ (e : Entry). conflicts v (idx + 1 + j) e) same
       ∙ ap₂ (λ (x y : ℕ). ltb (l .start .0) (idx + 1 + j) && leb (idx + 1 + j) x && not (eqb (runTerm run j) y)) (view-last l settled pending good) (view-term l settled pending good (idx + 1 + j))
 

@@ -9,7 +9,9 @@ use borrow.Author.Tests.{eqb-false, not-false}
 use lib.Dec.{eqb}
 use lib.ListN.{length, take}
 use Rattle.units.proofs.Cond.{either-end}
+use Rattle.units.proofs.Lists.{each-append, each-take, each-listed}
 use Rattle.units.proofs.Numbers.{below-or-not}
+use Rattle.units.specs.Lists.{listed}
 use Rattle.rules.specs.Log.{Entry, Log as Abstract, last, term-of}
 use Rattle.raft_log.specs.declared.Log.{Log}
 use Rattle.raft_log.specs.declared.Changed.{Changed}
@@ -32,7 +34,7 @@ use Rattle.raft_log.proofs.States.{no-term, zero-start}
 use Rattle.raft_log.proofs.Searching.{none-below}
 use Rattle.raft_log.proofs.Extending.{last-allowed}
 use Rattle.raft_log.proofs.Appending.{done-passed}
-use Rattle.log_laws.specs.View.{storeEntry, runEntry, listed, runEntries, view-of, messageOf}
+use Rattle.log_laws.specs.View.{storeEntry, runEntry, runEntries, view-of, messageOf}
 use Rattle.log_laws.specs.Keep.{AfterChanged, AfterDecided, AfterExtended, AfterAppended, NonzeroTerms, TermsSet}
 use Rattle.log_laws.proofs.Views.{entry-start, view-last, view-term}
 use Rattle.log_laws.proofs.Looking.{at-zero}
@@ -40,13 +42,13 @@ use Rattle.log_laws.proofs.Unmoved.{SameView, commit-to-view, applied-t
 use Rattle.log_laws.proofs.Fresh.{fresh-view}
 use Rattle.log_laws.proofs.AfterCalls.{Extends, settled-view, extended-view}
 use Rattle.log_laws.proofs.Receiving.{taken}
-use Rattle.log_laws.proofs.Nonzero.{AllSet, set-append, set-take, set-listed, nonzero-set, set-nonzero, AfterSteps, receiver-nonzero}
+use Rattle.log_laws.proofs.Nonzero.{TermSet, AllSet, nonzero-set, set-nonzero, AfterSteps, receiver-nonzero}
 
 -- ---- what refusal 3 lets through: n records among which its search finds no term 0, and a run
 
 searched-set : (f : ℕ → Entry) (n : ℕ) → none (λ k. eqb (f k .term) 0) n ≡ true → AllSet (listed f 0 n)
 searched-set f n h =
-    set-listed f 0 n (λ i b.
+    each-listed TermSet f 0 n (λ i b.
     let nonzero : f i .term ≡ 0 → ⊥ = eqb-false _ _ (none-below (λ k. eqb (f k .term) 0) n h i (omega arith)) in
     omega arith)
 
@@ -107,7 +109,7 @@ module _ (l : Log) (settled pending : List ℕ) (set : TermsSet l settled pendin
   extends-terms run z false a store e =
       let before : ℕ = firstOf run - l .start .0 - 1 in
       let held : List Entry = view-of l settled pending .entries in
-      subst NonzeroTerms (sym e) (set-nonzero _ (set-append (take before held) (runEntries run) (set-take before held (nonzero-set _ set)) (run-set run z)))
+      subst NonzeroTerms (sym e) (set-nonzero _ (each-append TermSet (take before held) (runEntries run) (each-take TermSet before held (nonzero-set _ set)) (run-set run z)))
 
   pub append-terms : (run : List ℕ) → AfterExtended TermsSet (extendAnswer l settled pending run) settled (extendStore (extendAnswer l settled pending run) pending run)
   append-terms run = go (extendAnswer l settled pending run) refl

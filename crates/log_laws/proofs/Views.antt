@@ -9,12 +9,13 @@ use borrow.Author.Tests.{lt-ltb, le-ltb}
 use lib.ListN.{length, getD, set, take, drop, length-append, length-set, List·getD-append, List·getD-eq-default}
 use lib.Seq.{getD-append-add, sets, length-sets, getD-set-same, getD-set-other, getD-take, getD-drop, paste, length-take-le, length-paste-head}
 use Rattle.units.proofs.Cond.{both-ends}
+use Rattle.units.proofs.Lists.{length-listed, at-listed, same-listed, append-listed}
 use Rattle.units.proofs.Numbers.{below-or-not}
 use Rattle.rules.specs.Log.{Entry, entry, nothing, Log as Abstract, last, entry-at, term-of}
 use Rattle.raft_log.specs.declared.Log.{Log}
 use Rattle.raft_log.specs.Words.{recordWords, room, putRecord, putRun, recordOf}
 use Rattle.raft_log.specs.State.{Good, lastOf, termAt}
-use Rattle.log_laws.specs.View.{storeEntry, runEntry, listed, records, view-of}
+use Rattle.log_laws.specs.View.{storeEntry, runEntry, records, view-of}
 use Rattle.raft_log.proofs.States.{term-below, term-start, term-settled, term-pending, term-beyond}
 
 pub same? : (a b : ℕ) → (a ≡ b) ⊎ (a ≡ b → ⊥)
@@ -26,56 +27,6 @@ same? a b =
 
 abbrev term : Entry → ℕ
 term e = e .term
-
--- ---- the records that a function gives
-
-pub length-listed : (f : ℕ → Entry) (k n : ℕ) → length (listed f k n) ≡ n
-unfolding listed
-length-listed f k zero = refl
-length-listed f k (suc n) = ap suc (length-listed f (k + 1) n)
-
-pub at-listed : (f : ℕ → Entry) (k n i : ℕ) → i < n → getD (listed f k n) i nothing ≡ f (k + i)
-unfolding listed
-at-listed f k zero i h = let z : ⊥ = omega arith in absurd z
-at-listed f k (suc n) zero h = ap f (omega arith)
-at-listed f k (suc n) (suc i) h = at-listed f (k + 1) n i (omega arith) ∙ ap f (omega arith)
-
-pub same-listed : (f g : ℕ → Entry) (k j n : ℕ) → ((i : ℕ) → i < n → f (k + i) ≡ g (j + i)) → listed f k n ≡ listed g j n
-unfolding listed
-same-listed f g k j zero h = refl
-same-listed f g k j (suc n) h =
-    ap₂ (λ (e : Entry) (es : List Entry). e ∷ es)
-    (ap f (omega arith) ∙ h 0 (omega arith) ∙ ap g (omega arith))
-    (same-listed f g (k + 1) (j + 1) n (λ i r. ap f (omega arith) ∙ h (suc i) (omega arith) ∙ ap g (omega arith)))
-
-pub take-listed : (f : ℕ → Entry) (k n j : ℕ) → j ≤ n → take j (listed f k n) ≡ listed f k j
-unfolding listed
-take-listed f k n zero h = refl
-take-listed f k zero (suc j) h = let z : ⊥ = omega arith in absurd z
-take-listed f k (suc n) (suc j) h = ap (λ (es : List Entry). f k ∷ es) (take-listed f (k + 1) n j (omega arith))
-
-pub drop-listed : (f : ℕ → Entry) (k n j : ℕ) → j ≤ n → drop j (listed f k n) ≡ listed f (k + j) (n - j)
-unfolding listed
-drop-listed f k n zero h =
-    let a : k ≡ k + 0 = omega arith in
-    let b : n ≡ n - 0 = omega arith in
-    ap₂ (listed f) a b
-drop-listed f k zero (suc j) h = let z : ⊥ = omega arith in absurd z
-drop-listed f k (suc n) (suc j) h =
-    let a : k + 1 + j ≡ k + suc j = omega arith in
-    let b : n - j ≡ suc n - suc j = omega arith in
-    drop-listed f (k + 1) n j (omega arith) ∙ ap₂ (listed f) a b
-
-pub append-listed : (f : ℕ → Entry) (k m n : ℕ) → listed f k (m + n) ≡ listed f k m ++ listed f (k + m) n
-unfolding listed
-append-listed f k zero n =
-    let a : k ≡ k + 0 = omega arith in
-    let b : 0 + n ≡ n = omega arith in
-    ap₂ (listed f) a b
-append-listed f k (suc m) n =
-    let e : suc m + n ≡ suc (m + n) = omega arith in
-    ap (listed f k) e
-    ∙ ap (λ (es : List Entry). f k ∷ es) (append-listed f (k + 1) m n ∙ ap (λ (x : ℕ). listed f (k + 1) m ++ listed f x n) (omega arith))
 
 -- the records of two sources, one after the other
 pub listed-two : (f g h : ℕ → Entry) (m k n : ℕ) → ((i : ℕ) → i < m → f i ≡ g i) → ((i : ℕ) → i < n → f (m + i) ≡ h (k + i))
@@ -89,7 +40,7 @@ listed-two f g h m k n first second =
 -- a record is its two words
 pub same-entry : (s t : List ℕ) (i j : ℕ) → ((w : ℕ) → w < recordWords → getD s (i * recordWords + w) 0 ≡ getD t (j * recordWords + w) 0) → storeEntry s i ≡ storeEntry t j
 same-entry s t i j h =
-    ap₂ (λ (term body : ℕ). record { term = term; body = body })
+    ap₂ entry
     (ap (λ (w : ℕ). getD s w 0) (omega arith) ∙ h 0 (omega arith) ∙ ap (λ (w : ℕ). getD t w 0) (omega arith))
     (h 1 (omega arith))
 
@@ -147,7 +98,7 @@ module _ (l : Log) (settled pending : List ℕ) (good : Good l settled pending) 
     entry-settled h k =
         after-start h
         ∙ List·getD-append front back nothing (i - l .start .0 - 1) (omega (arith, front-length))
-        ∙ at-listed (storeEntry settled) 0 (l .offset .0 - 1 - l .start .0) (i - l .start .0 - 1) (omega arith)
+        ∙ at-listed (storeEntry settled) 0 (l .offset .0 - 1 - l .start .0) (i - l .start .0 - 1) nothing (omega arith)
         ∙ ap (storeEntry settled) (omega arith)
 
     in-back : l .start .0 < i → l .offset .0 ≤ i → entry-at (view-of l settled pending) i ≡ getD back (i - l .offset .0) nothing
@@ -159,7 +110,7 @@ module _ (l : Log) (settled pending : List ℕ) (good : Good l settled pending) 
         → entry-at (view-of l settled pending) i ≡ storeEntry pending (i - l .offset .0)
     entry-pending h k m =
         in-back h k
-        ∙ at-listed (storeEntry pending) 0 (l .count) (i - l .offset .0) m
+        ∙ at-listed (storeEntry pending) 0 (l .count) (i - l .offset .0) nothing m
         ∙ ap (storeEntry pending) (omega arith)
 
     pub entry-beyond : l .start .0 < i → l .offset .0 ≤ i → l .count ≤ i - l .offset .0 → entry-at (view-of l settled pending) i ≡ nothing

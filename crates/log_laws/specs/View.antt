@@ -1,7 +1,8 @@
 -- What the state and the words of both stores stand for: a log of the rules (rules/specs/Log.antt). A reader must know: `view-of` lists the settled records, then the pending ones; no promise of a call cites it, it is for what is proved of them.
-use Prim.Native.Nat.{ℕ, zero, suc, _+_, _-_, _*_}
-use mathlib.Core.List.{List, [], _∷_, _++_}
+use Prim.Native.Nat.{ℕ, _+_, _-_, _*_}
+use mathlib.Core.List.{List, _++_}
 use lib.ListN.{getD}
+use Rattle.units.specs.Lists.{listed}
 use Rattle.rules.specs.Log.{Entry, Log as Abstract}
 use Rattle.rules.specs.Receiver.{Message}
 use Rattle.raft_log.specs.declared.Log.{Log}
@@ -18,11 +19,6 @@ storeEntry s k = record { term = storeTerm s k; body = storeBody s k }
 -- Record k of a run.
 abbrev pub runEntry : List ℕ → ℕ → Entry
 runEntry run k = record { term = runTerm run k; body = runBody run k }
-
--- The n records that f gives from k on.
-unfoldable pub listed : (ℕ → Entry) → ℕ → ℕ → List Entry
-listed f k zero = []
-listed f k (suc n) = f k ∷ listed f (k + 1) n
 
 -- The first n records of a store.
 abbrev pub records : ℕ → List ℕ → List Entry

@@ -7,6 +7,7 @@ use mathlib.Core.List.{List, [], _∷_, flatten}
 use lib.Dec.{eqb}
 use lib.ListN.{replicate}
 use borrow.Author.Tests.{eq-eqb}
+use Rattle.units.specs.Lists.{listed}
 use Rattle.raft_log.specs.Words.{putRun, firstFrom}
 use Rattle.raft_log.specs.State.{stateOk, termAt}
 use Rattle.raft_log.specs.Run.{numbered, termsSet}
@@ -24,8 +25,8 @@ use Rattle.quorum.specs.Half.{halfIndex}
 use Rattle.quorum.specs.Majority.{committedIndex, voteResult, plainIndex, plainResult}
 use Rattle.quorum.specs.Joint.{jointIndex, jointVerdict, plainJointIndex, plainJointVerdict, rising, bothIds}
 use Rattle.inflights.specs.State.{startFits, deferredFits, sound, windowCheck, capCheck, isFull, roomCheck}
-use Rattle.inflights.specs.Ring.{placeOf, values, flightsFrom, leading}
-use Rattle.inflights.specs.Calls.{made, withCap, setCapCheck, capped, fullness, counted, addCheck, added, ringAfter, takeUp, freeTo, freedTo, freedFirst, cleared, rewind, rewound}
+use Rattle.inflights.specs.Ring.{placeOf, flightsFrom, leading}
+use Rattle.inflights.specs.Calls.{madeWindow, withCap, setCapCheck, capped, fullness, counted, addCheck, added, ringAfter, takeUp, freeTo, freedTo, freedFirst, cleared, rewind, rewound}
 use Rattle.exports.specs.Words.{logLength, Outcome, leaves}
 
 -- To name one of these on an `unfolding` line is to open each of its names, and `flatten`, by which the words of an outcome are joined.
@@ -34,11 +35,11 @@ unfolding flatten putRun firstFrom stateOk termAt numbered termsSet outside deci
 log-promises = tt
 
 unfoldable pub quorum-promises : Unit {0}
-unfolding flatten count insert falling kth-largest committed position has distinct halfIndex committedIndex voteResult plainIndex plainResult jointIndex jointVerdict plainJointIndex plainJointVerdict rising bothIds
+unfolding flatten listed count insert falling kth-largest committed position has distinct halfIndex committedIndex voteResult plainIndex plainResult jointIndex jointVerdict plainJointIndex plainJointVerdict rising bothIds
 quorum-promises = tt
 
 unfoldable pub window-promises : Unit {0}
-unfolding flatten startFits deferredFits sound windowCheck capCheck isFull roomCheck placeOf values flightsFrom leading made withCap setCapCheck capped fullness counted addCheck added ringAfter takeUp freeTo freedTo freedFirst cleared rewind rewound
+unfolding flatten startFits deferredFits sound windowCheck capCheck isFull roomCheck placeOf listed flightsFrom leading madeWindow withCap setCapCheck capped fullness counted addCheck added ringAfter takeUp freeTo freedTo freedFirst cleared rewind rewound
 window-promises = tt
 
 -- The same words.

@@ -29,7 +29,7 @@ use Rattle.quorum.specs.declared.rows.Question.{Question}
 use Rattle.quorum.specs.declared.rows.Rows.{Rows}
 use Rattle.peer_tables.specs.Table.{noRows, oneMore, tableIndex, tableResult, tableJointIndex, tableJointVerdict}
 use Rattle.peer_tables.specs.declared.Table.{Table}
-use Rattle.inflights.specs.Calls.{made as madeWindow, capped, fullness, added, ringAfter, freedTo, freedFirst, cleared, rewound, counted}
+use Rattle.inflights.specs.Calls.{madeWindow, capped, fullness, added, ringAfter, freedTo, freedFirst, cleared, rewound, counted}
 use Rattle.inflights.specs.InPlace.{stepOf, Stored}
 use Rattle.inflights.specs.declared.Inflights.{Inflights}
 use Rattle.inflights.specs.declared.Step.{Step}

@@ -10,6 +10,7 @@ use lib.Dec.{eqb, lit<, lit≤}
 use lib.ListN.{getD}
 use Rattle.units.specs.Units.{wordMax, indexOf, termOf}
 use Rattle.units.specs.Refusals.{outOfRange, windowFull}
+use Rattle.units.specs.Lists.{listed}
 use Rattle.units.specs.declared.Check.the-variants as check
 use Rattle.units.proofs.Never.{never}
 use Rattle.rules.specs.Count.{count, Reordered, keep, swap, then}
@@ -52,7 +53,7 @@ use Rattle.raft_log.proofs.Conflicts.{Held}
 use Rattle.raft_log.proofs.Appending.{Cut, answer-cut}
 use Rattle.raft_log.proofs.Extending.{Extends, extend-cut}
 use Rattle.raft_log.proofs.Settling.{Last}
-use Rattle.log_laws.specs.View.{listed, view-of}
+use Rattle.log_laws.specs.View.{view-of}
 use Rattle.log_laws.specs.Keep.{TermsSet}
 use Rattle.log_laws.specs.Looking.{FoundBelow}
 use Rattle.log_laws.specs.Slicing.{recordsFrom, Reads, Askable, Part, Gives}
@@ -113,6 +114,7 @@ pub same-voters : SameVoters (setOf (1 ∷ 2 ∷ [])) (setOf (2 ∷ 1 ∷ []))
 same-voters = record { as-many = refl; reordered = swap 1 2 [] }
 
 pub other-voters : SameVoters (votersFrom 1 2) (votersFrom 1 3) → ⊥
+unfolding listed
 other-voters s = let same : _≡_ {A = ℕ} 2 3 = s .as-many in omega arith
 
 -- ---- votes
@@ -237,6 +239,7 @@ pub no-voters : NoVoters (oneSet noVoters)
 no-voters = (refl, refl)
 
 pub some-voters : NoVoters threeAndTwo → ⊥
+unfolding listed
 some-voters empty = never (cc (empty .0))
 
 -- The ids of both halves, in rising order; in another order they are no such list.

@@ -1,10 +1,11 @@
 -- Document 01's cases that are marked P, as ONE table over the very definitions that the contracts cite, across log, quorums and window; and refusal 12 in each of its four ways.
 -- A reader must know: each line has its sentence of 01 beside it, and holds by computing both sides (proofs/Cases.antt). "Log A: start (0,0); terms of 1 to 5 are 1,1,2,2,3; offset 4; committed 2, persisted 3, applied 1; pending room 4 records". The bodies of A are 1 to 5, those of a run 6 and more.
-use Prim.Native.Nat.{ℕ, zero, suc}
+use Prim.Native.Nat.{ℕ, suc}
 use mathlib.Core.Path.{_≡_}
 use mathlib.Core.List.{List, [], _∷_, _++_}
 use Rattle.units.specs.Units.{indexOf, termOf}
 use Rattle.units.specs.Refusals.{outsideLog, mismatch, cutsCommitted, brokenSet}
+use Rattle.units.specs.Lists.{listed}
 use Rattle.raft_log.specs.declared.Log.{Log}
 use Rattle.raft_log.specs.declared.Looked.the-variants as looked
 use Rattle.raft_log.specs.declared.ByTerm.{ByTerm}
@@ -32,7 +33,7 @@ use Rattle.quorum.specs.declared.rows.Vote.{Vote}
 use Rattle.quorum.specs.declared.rows.Vote.the-variants as vote
 use Rattle.quorum.specs.declared.rows.Peer.{Peer}
 use Rattle.inflights.specs.Ring.{flights}
-use Rattle.inflights.specs.Calls.{made, capped, fullness, added, ringAfter, freedTo}
+use Rattle.inflights.specs.Calls.{madeWindow, capped, fullness, added, ringAfter, freedTo}
 use Rattle.inflights.specs.declared.Deferred.{Deferred}
 use Rattle.inflights.specs.declared.Deferred.the-variants.{Nothing, Cap}
 use Rattle.inflights.specs.declared.Inflights.{Inflights}
@@ -78,8 +79,7 @@ found index term = byterm.Found (indexOf index) (termOf term)
 
 -- So many ids, from one on.
 abbrev pub idsFrom : ℕ → ℕ → List ℕ
-idsFrom id zero = []
-idsFrom id (suc n) = id ∷ idsFrom (suc id) n
+idsFrom id n = listed (λ k. k) id n
 
 -- The voters of these ids.
 abbrev pub votersFrom : ℕ → ℕ → Voters
@@ -172,7 +172,7 @@ pub record DocumentCases : Type 0 where
   pub too-many-rows : committedIndex noVoters (acking (replicate (suc rowLimit) 0)) ≡ answer.Refused brokenSet
   pub repeated-row : committedIndex (votersFrom 2 3) (acking (1 ∷ []) ++ acking (1 ∷ [])) ≡ answer.Refused brokenSet
   -- "cap 4, flights 5,5,6: set_cap(2) defers and is full; free_to(5) leaves 6, not full." Each line begins where the one above it ended; the ring has 4 words.
-  pub window-new : made 4 4 ≡ Now (window 0 0 Nothing)
+  pub window-new : madeWindow 4 4 ≡ Now (window 0 0 Nothing)
   pub first-5 : (added (window 0 0 Nothing) 4 ≡ Now (window 0 1 Nothing)) × (ringAfter (window 0 0 Nothing) old 5 ≡ 5 ∷ 9 ∷ 9 ∷ 9 ∷ [])
   pub second-5 : (added (window 0 1 Nothing) 4 ≡ Now (window 0 2 Nothing)) × (ringAfter (window 0 1 Nothing) (5 ∷ 9 ∷ 9 ∷ 9 ∷ []) 5 ≡ 5 ∷ 5 ∷ 9 ∷ 9 ∷ [])
   pub then-6 : (added (window 0 2 Nothing) 4 ≡ Now (window 0 3 Nothing)) × (ringAfter (window 0 2 Nothing) (5 ∷ 5 ∷ 9 ∷ 9 ∷ []) 6 ≡ flown)

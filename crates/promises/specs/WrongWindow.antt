@@ -10,7 +10,7 @@ use Rattle.units.specs.Refusals.{noRoom, windowFull, brokenWindow}
 use Rattle.rules.specs.Count.{count}
 use Rattle.inflights.specs.State.{windowCheck, emptyOf}
 use Rattle.inflights.specs.Ring.{flights, leading}
-use Rattle.inflights.specs.Calls.{windowUnless, made, capped, fullness, counted, added, ringAfter, takeUp, behind, freedTo, freedFirst, cleared, rewound}
+use Rattle.inflights.specs.Calls.{windowUnless, madeWindow, capped, fullness, counted, added, ringAfter, takeUp, behind, freedTo, freedFirst, cleared, rewound}
 use Rattle.inflights.specs.InPlace.{stepOf, Stored}
 use Rattle.inflights.specs.declared.Deferred.the-variants.{Nothing, Cap}
 use Rattle.inflights.specs.declared.Inflights.{Inflights}
@@ -52,9 +52,9 @@ stepLeft w code = record { window = w; code = code }
 pub record WrongWindow : Type 0 where
   -- ---- by value
   -- Cap 5 in 4 words: a window.
-  pub new-no-refusal : made 5 4 ≢ Now (emptyOf 5)
+  pub new-no-refusal : madeWindow 5 4 ≢ Now (emptyOf 5)
   -- Cap 4 in 4 words: 7, one word too early.
-  pub new-whole-ring : made 4 4 ≢ Refused noRoom
+  pub new-whole-ring : madeWindow 4 4 ≢ Refused noRoom
   -- Three flights, cap 2: in effect at once. It is deferred.
   pub set-cap-at-once : capped three 4 2 ≢ Now (ofCap 2 0 3)
   -- A broken window, cap 5: 7, for the cap that is handed in. It is 13.

@@ -7,15 +7,11 @@ use native.Mathlib.Nat.{zero-sub}
 use native.Mathlib.Numerals.{add-one, unary-clauses}
 use lib.ListN.{length, getD, set, take, drop, replicate, length-append, length-map, length-take, length-replicate}
 use lib.Seq.{paste, take-all, take-nil, take-length, take-append-seam, drop-append-seam, drop-append-add, set-append-seam, append-snoc, take-suc, length-take-le}
+use Rattle.units.proofs.Lists.{drop-replicate}
 use Rattle.quorum.specs.Ids.{padded}
 
 abbrev zeros : ℕ → List ℕ
 zeros n = replicate n 0
-
-drop-zeros : (k n : ℕ) → drop k (zeros n) ≡ zeros (n - k)
-drop-zeros zero n = simp unary-clauses
-drop-zeros (suc k) zero = rw zero-sub
-drop-zeros (suc k) (suc n) = simp unary-clauses (drop-zeros k n)
 
 pub length-padded : (n : ℕ) (xs : List ℕ) → length (padded n xs) ≡ n
 length-padded n xs = simp (length-append, length-take, length-replicate) (omega arith)
@@ -48,7 +44,7 @@ paste-padded n xs ys h =
     let fits : length xs ≤ n = omega arith in
     let rest : n - length xs - length ys ≡ n - length (xs ++ ys) = omega (arith, length-append xs ys) in
     let behind : drop (length xs + length ys) (padded n xs) ≡ zeros (n - length (xs ++ ys))
-    = ap (drop (length xs + length ys)) (padded-fits n xs fits) ∙ drop-append-add xs (zeros (n - length xs)) (length ys) ∙ drop-zeros (length ys) (n - length xs) ∙ ap zeros rest in
+    = ap (drop (length xs + length ys)) (padded-fits n xs fits) ∙ drop-append-add xs (zeros (n - length xs)) (length ys) ∙ drop-replicate (length ys) (n - length xs) 0 ∙ ap zeros rest in
     rw (take-padded n xs fits, take-length, behind) (sym (padded-fits n (xs ++ ys) (omega (arith, length-append xs ys))))
 
 pub paste-zeros : (n : ℕ) (ys : List ℕ) → length ys ≤ n → paste (replicate n 0) 0 ys (length ys) ≡ padded n ys

@@ -30,6 +30,7 @@ use denote.Builtin.{u64}
 use denote.Index.{place, place-is}
 use denote.Laws.{Is}
 use denote.Shadow.{shadow}
+use Rattle.units.proofs.Lists.{map-set}
 
 abbrev pub words : List ℕ → Val
 words xs = arrayVal (map (vint w64) xs)
@@ -54,11 +55,6 @@ each-is (x ∷ xs) fit = ((refl, fit .0 .fits), each-is xs (fit .1))
 
 pub words-are : (n : ℕ) (xs : List ℕ) → length xs ≡ n → WTs (ofList (map (vint w64) xs)) → Is (Array u64 n) (map (λ x. x) xs) (words xs ∷ [])
 words-are n xs len fit = (map (vint w64) xs, ((refl, length-map xs (λ x. x) ∙ len), each-is xs fit))
-
-map-set : {A B : Type 0} (f : A → B) (l : List A) (i : ℕ) (y : A) → set (map f l) i (f y) ≡ map f (set l i y)
-map-set f [] i y = refl
-map-set f (x ∷ xs) zero y = refl
-map-set {B = B} f (x ∷ xs) (suc i) y = ap (λ (zs : List B). f x ∷ zs) (map-set f xs i y)
 
 module _ {M : Type 1} (𝓤 : URA M) (H : Heap 𝓤) (A : Atoms 𝓤) (W : Given 𝓤 H A) (q : Share) (τ : Ty) (b : ℕ) where
   -- the way back: any value u at element i gives the elements, with u there

@@ -7,8 +7,9 @@ use mathlib.Core.Logic.{_↔_}
 use native.Mathlib.Omega.{arith}
 use native.Mathlib.Nat.{le-antisymm, le-trans}
 use Rattle.units.specs.Units.{wordMax}
+use Rattle.units.specs.Lists.{Each}
 use Rattle.rules.specs.Majority.{committed}
-use Rattle.rules.proofs.Majority.{reached-falls, committed-commits, Each, committed-each}
+use Rattle.rules.proofs.Majority.{reached-falls, committed-commits, committed-each}
 use Rattle.quorum.specs.Half.{halfIndex, joined}
 use Rattle.quorum_laws.specs.JointRule.{Backs, JointCommits}
 use Rattle.quorum_laws.specs.Questions.{Words}

@@ -8,13 +8,14 @@ use lib.ListN.{length, getD, take, drop, length-append, length-take, length-drop
 use lib.Seq.{getD-take, getD-drop, drop-cons, take-append-le, drop-append-le, ext-getD}
 use borrow.Author.Tests.{eq-eqb, ne-eqb, le-leb}
 use Rattle.units.specs.Units.{indexLimit}
+use Rattle.units.proofs.Lists.{length-listed, at-listed}
 use Rattle.rules.specs.Log.{Entry, entry, nothing, whole-list, records-after, entry-at, term-of}
 use Rattle.raft_log.specs.Words.{runWords, runCount, runIndex, runTerm, none}
 use Rattle.raft_log.specs.Run.{misplaced, zeroAt, numbered, termsSet}
 use Rattle.raft_log.proofs.Searching.{same-not, below-none}
 use Rattle.log_laws.specs.View.{runEntry, runEntries}
 use Rattle.log_laws.specs.Keep.{NonzeroTerms}
-use Rattle.log_laws.proofs.Views.{length-listed, at-listed, entry-after}
+use Rattle.log_laws.proofs.Views.{entry-after}
 use Rattle.two_ends.specs.Follower.{Message, last-index, WellFormed}
 use Rattle.two_ends.specs.Leader.{as-run, cut, CutFrom}
 
@@ -59,7 +60,7 @@ as-run-entries i es =
     let run : List ℕ = as-run i es in
     let count = as-run-count i es in
     let long = length-listed (runEntry run) 0 (runCount run) ∙ count in
-    ext-getD nothing (runEntries run) es long (λ k h. at-listed (runEntry run) 0 (runCount run) k (omega arith) ∙ ap (runEntry run) (omega arith) ∙ as-run-entry i es k (omega arith))
+    ext-getD nothing (runEntries run) es long (λ k h. at-listed (runEntry run) 0 (runCount run) k nothing (omega arith) ∙ ap (runEntry run) (omega arith) ∙ as-run-entry i es k (omega arith))
 
 -- ---- a run passes both tests
 

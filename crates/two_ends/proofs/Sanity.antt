@@ -8,6 +8,7 @@ use lib.Dec.{lit<, lit≤}
 use lib.ListN.{take}
 use Rattle.units.specs.Units.{indexOf}
 use Rattle.units.specs.Refusals.{outsideLog}
+use Rattle.units.specs.Lists.{listed}
 use Rattle.units.proofs.Numbers.{below-or-not}
 use Rattle.rules.specs.Log.{Log, whole-list, last, entry-at, term-of, Same, Matching, Agree}
 use Rattle.raft_log.specs.declared.Appended.the-variants.{Done, Refused}
@@ -18,7 +19,7 @@ use Rattle.raft_log.specs.Append.{outside, decide, matchRun, appendAnswer, appe
 use Rattle.raft_log.specs.Commit.{appliedTo, maybePersist}
 use Rattle.raft_log.specs.Settle.{settleAnswer, settleStore}
 use Rattle.raft_log.specs.Setup.{fresh, setupOk, setupAnswer}
-use Rattle.log_laws.specs.View.{listed, view-of}
+use Rattle.log_laws.specs.View.{view-of}
 use Rattle.log_laws.specs.Keep.{NonzeroTerms}
 use Rattle.two_ends.specs.Follower.{Follower, held, Message, engine, settles, persists, applies, does, follow, Made, set-up, by-maybe-append, by-between}
 use Rattle.two_ends.specs.Leader.{as-run, cut, CutFrom}

@@ -12,6 +12,7 @@ use Rattle.units.specs.declared.Index.{Index}
 use Rattle.units.proofs.Cond.{taken as first-end}
 use Rattle.units.proofs.Never.{never}
 use Rattle.units.proofs.Numbers.{below-or-not}
+use Rattle.units.proofs.Lists.{length-listed, at-listed}
 use Rattle.rules.specs.Log.{Entry, nothing, Log as Abstract, whole-list, last, entry-at, term-of, Matching, Agree}
 use Rattle.rules.specs.Receiver.{success, contains, receiver}
 use Rattle.rules.proofs.Receiver.{contains-holds, raised}
@@ -25,7 +26,7 @@ use Rattle.raft_log.proofs.Searching.{found, same-not}
 use Rattle.raft_log.proofs.States.{split, refuted, not-both, neither, good-whole}
 use Rattle.log_laws.specs.View.{runEntry, runEntries}
 use Rattle.log_laws.specs.Keep.{NonzeroTerms}
-use Rattle.log_laws.proofs.Views.{view-term, length-listed, at-listed}
+use Rattle.log_laws.proofs.Views.{view-term}
 use Rattle.log_laws.proofs.Receiving.{taken, step-2-is}
 use Rattle.two_ends.specs.Follower.{Follower, held, committed, Message, last-index, outcome-of, answer-to, engine, alike, HasRoom}
 use Rattle.two_ends.specs.Leader.{CutFrom}
@@ -124,7 +125,7 @@ module _ (xs : List Entry) (leader-terms : NonzeroTerms (whole-list xs)) (leader
       let hit = found (differs (f .log) (f .settled) (f .pending) (m .idx) (m .run)) 0 (runCount (m .run)) .hit (omega arith) in
       let same : runTerm (m .run) (alike f m) ≡ termAt (f .log) (f .settled) (f .pending) (m .idx + 1 + alike f m) =
       ap (runTerm (m .run)) (omega arith)
-      ∙ ap (λ (e : Entry). e .term) (sym (at-listed (runEntry (m .run)) 0 (runCount (m .run)) (alike f m) some) ∙ new-at (alike f m) long)
+      ∙ ap (λ (e : Entry). e .term) (sym (at-listed (runEntry (m .run)) 0 (runCount (m .run)) (alike f m) nothing some) ∙ new-at (alike f m) long)
       ∙ sym (st .has-committed .same (m .idx + 1 + alike f m) (omega (arith, h .0 .0)) low .terms)
       ∙ view-term (f .log) (f .settled) (f .pending) good (m .idx + 1 + alike f m) in
       not-both hit (same-not same))

@@ -2,7 +2,7 @@
 use Prim.Native.Nat.{ℕ}
 use mathlib.Core.Path.{_≡_, refl, sym, ap, subst, _∙_}
 use mathlib.Core.Bool.{Bool, true, false}
-use mathlib.Core.Logic.{_↔_}
+use mathlib.Core.Logic.{_↔_, _≢_}
 use Rattle.units.specs.Refusals.{bothChecks, fineOr, refusalOf, unless}
 use Rattle.units.specs.declared.Check.{Check}
 use Rattle.units.specs.declared.Check.the-variants as check
@@ -61,3 +61,13 @@ module _ {A : Type 0} (refused : ℕ → A) where
   pub handed-over : (k : Check) {said : A} {n : ℕ} → (said ≡ refused n → _≡_ {A = ℕ} 0 1) → ((m : ℕ) → refused m ≡ refused n → m ≡ n) → unless refused k said ≡ refused n → k ≡ check.Refused n
   handed-over check.Fine none same e = never (none e)
   handed-over (check.Refused m) none same e = ap check.Refused (same m e)
+
+  -- What holds of the answer and of each refusal, by what the check then says, holds of either.
+  pub either-answer : (P : A → Type 0) (k : Check) {x : A} → (k ≡ check.Fine → P x) → ((n : ℕ) → k ≡ check.Refused n → P (refused n)) → P (unless refused k x)
+  either-answer P check.Fine p q = p refl
+  either-answer P (check.Refused n) p q = q n refl
+
+  -- What is no refusal is the answer, and the check finds nothing wrong.
+  pub answered : (k : Check) {x z : A} → ((n : ℕ) → refused n ≢ z) → unless refused k x ≡ z → (k ≡ check.Fine) × (x ≡ z)
+  answered check.Fine other h = (refl, h)
+  answered (check.Refused n) other h = absurd (other n h)

@@ -1,6 +1,6 @@
 -- `Inflights::new` meets its contract, by its check.
 use borrow.Author.Needs.{needs}
-use Rattle.inflights.specs.Calls.{made}
+use Rattle.inflights.specs.Calls.{madeWindow}
 use Rattle.inflights.proofs.Inflights.new.Statement.{statement}
 use Rattle.inflights.proofs.Inflights.new.Tie as tie
 
@@ -17,14 +17,14 @@ refusal-requires : tie.Need-refusal-requires
 refusal-requires c κs = search needs
 
 returns : tie.Need-returns
-unfolding made
+unfolding madeWindow
 returns c = rw (c .refusal .ensures, ← c .before .before .before .cap-fits .ensures, c .before .enum-told2 .given .1)
 
 empty-requires : tie.Need-empty-requires
 empty-requires c κs = search needs
 
 returns-2 : tie.Need-returns-2
-unfolding made
+unfolding madeWindow
 returns-2 c = rw (c .empty .ensures, ← c .before .before .before .cap-fits .ensures, c .before .enum-told .given .1)
 
 pub new-spec : {M : Type 1} → statement M

@@ -5,16 +5,14 @@ use mathlib.Core.Bool.{true, false}
 use mathlib.Core.List.{List, _∷_}
 use native.Mathlib.Omega.{arith}
 use native.Mathlib.Numerals.{add-one}
-use lib.ListN.{length, drop, take, getD, length-drop}
-use lib.Seq.{drop-cons, drop-length, take-all}
+use lib.ListN.{length, drop, take, getD}
+use lib.Seq.{drop-cons, drop-length}
 use borrow.Author.Needs.{needs}
+use Rattle.units.proofs.Lists.{to-the-end}
 use Rattle.quorum.specs.Ids.{position, distinct}
 use Rattle.quorum.proofs.IdLaws.{distinct-twice, distinct-once}
 use Rattle.quorum.proofs.ids.distinct.Statement.{statement}
 use Rattle.quorum.proofs.ids.distinct.Tie as tie
-
-rest : (s : List ℕ) (k : ℕ) → take (length s - k) (drop k s) ≡ drop k s
-rest s k = take-all (length s - k) (drop k s) (omega (arith, length-drop k s))
 
 step : (s : List ℕ) (i : ℕ) → i < length s → drop i s ≡ getD s i 0 ∷ drop (i + 1) s
 step s i h = drop-cons s i 0 h ∙ ap (λ (k : ℕ). getD s i 0 ∷ drop k s) (sym (add-one i))
@@ -22,13 +20,13 @@ step s i h = drop-cons s i 0 h ∙ ap (λ (k : ℕ). getD s i 0 ∷ drop k s) (s
 -- p is what `position` answered of the part after i
 module _ (s : List ℕ) (i p : ℕ) (h : i < length s) (e : p ≡ position (getD s i 0) (take (length s - (i + 1)) (drop (i + 1) s))) where
   answered : p ≡ position (getD s i 0) (drop (i + 1) s)
-  answered = e ∙ ap (position (getD s i 0)) (rest s (i + 1))
+  answered = e ∙ ap (position (getD s i 0)) (to-the-end s (i + 1))
 
   twice : p < length (take (length s - (i + 1)) (drop (i + 1) s)) → distinct (drop i s) ≡ false
-  twice l = ap distinct (step s i h) ∙ distinct-twice (getD s i 0) (drop (i + 1) s) (omega (arith, answered, ap length (rest s (i + 1))))
+  twice l = ap distinct (step s i h) ∙ distinct-twice (getD s i 0) (drop (i + 1) s) (omega (arith, answered, ap length (to-the-end s (i + 1))))
 
   once : length (take (length s - (i + 1)) (drop (i + 1) s)) ≤ p → distinct (drop i s) ≡ distinct (drop (i + 1) s)
-  once l = ap distinct (step s i h) ∙ distinct-once (getD s i 0) (drop (i + 1) s) (omega (arith, answered, ap length (rest s (i + 1))))
+  once l = ap distinct (step s i h) ∙ distinct-once (getD s i 0) (drop (i + 1) s) (omega (arith, answered, ap length (to-the-end s (i + 1))))
 
 none : (s : List ℕ) (i : ℕ) → length s ≤ i → i ≤ length s → distinct (drop i s) ≡ true
 unfolding distinct
