@@ -15,7 +15,7 @@ use Rattle.raft_log.specs.declared.Bounds.{Bounds}
 use Rattle.raft_log.specs.declared.Bounds.the-variants as bounds
 use Rattle.raft_log.specs.Words.{recordWords}
 use Rattle.raft_log.specs.State.{Good, broken, lastOf}
-use Rattle.raft_log.specs.Slice.{inStore, sliceIn, sliceBounds, entriesBounds, nextLow, nextHigh, hasNext, nextBounds, storePart, partOf}
+use Rattle.raft_log.specs.Slice.{inStore, sliceIn, sliceBounds, entriesBounds, nextLow, nextHigh, hasNext, nextEntriesBoundsSince, storePart, partOf}
 use Rattle.raft_log.proofs.States.{ok-good}
 use Rattle.raft_log.proofs.Slices.{next-true, part-some}
 use Rattle.exports.specs.Words.{partLength, logFrom, put, leaves, reading, logLength}
@@ -63,8 +63,8 @@ module _ (l : Log) (settled pending : List ℕ) where
   unfolding entriesBounds
   entries-sound i = unless-broken _ (λ good. either-end Fair (ltb (lastOf l) i) (λ _. tt) (λ _. in-range good i (lastOf l + 1)))
 
-  pub next-sound : (s : ℕ) → Fair (nextBounds l settled pending s)
-  unfolding nextBounds
+  pub next-sound : (s : ℕ) → Fair (nextEntriesBoundsSince l settled pending s)
+  unfolding nextEntriesBoundsSince
   next-sound s =
       unless-broken _
       (λ good. either-end Fair (hasNext l s)
@@ -114,5 +114,5 @@ module _ (log settled pending answer : List ℕ) where
   pub entries-names : (i : ℕ) → Names l settled pending (entriesBounds l settled pending i) (entriesLeaves log settled pending i answer)
   entries-names i = reading-names _ (entries-sound l settled pending i)
 
-  pub next-names : (s : ℕ) → Names l settled pending (nextBounds l settled pending s) (nextEntriesSinceLeaves log settled pending s answer)
+  pub next-names : (s : ℕ) → Names l settled pending (nextEntriesBoundsSince l settled pending s) (nextEntriesSinceLeaves log settled pending s answer)
   next-names s = reading-names _ (next-sound l settled pending s)

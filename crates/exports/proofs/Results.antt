@@ -14,13 +14,13 @@ use Rattle.units.proofs.Never.{never}
 use Rattle.raft_log.specs.Words.{runCount}
 use Rattle.raft_log.specs.State.{broken, lastOf}
 use Rattle.raft_log.specs.Run.{misnumbered, zeroTermIn}
-use Rattle.raft_log.specs.Append.{afterMessage, outside, mismatched, cuts, overfull, decide, matchRun, appendAnswer, appendStore}
-use Rattle.raft_log.specs.Extend.{firstOf, badRun, startsCommitted, leavesGap, startsPersisted, extendFrom, extendAnswer, extendStore, extended as extendedLog}
+use Rattle.raft_log.specs.Append.{afterMessage, outside, mismatched, cuts, overfull, decide, matchRun, maybeAppend, maybeAppendStore}
+use Rattle.raft_log.specs.Extend.{firstOf, badRun, startsCommitted, leavesGap, startsPersisted, extendFrom, appendRun, appendRunStore, extended as extendedLog}
 use Rattle.raft_log.specs.Commit.{mayCommit, mayPersist, commitTo, appliedTo, maybeCommit, maybePersist}
-use Rattle.raft_log.specs.Settle.{settledOverfull, isLast, settleAnswer, settleStore}
-use Rattle.raft_log.specs.Setup.{setupOk, settledZero, setupAnswer}
-use Rattle.raft_log.specs.Look.{lookTerm, lookFirst, lookLast, lookLastTerm, lookCommit, lookUpToDate, byTermIn, byTerm}
-use Rattle.raft_log.specs.Slice.{sliceBounds, entriesBounds, nextBounds, hasNextSince}
+use Rattle.raft_log.specs.Settle.{settledOverfull, isLast, stableEntries, stableEntriesStore}
+use Rattle.raft_log.specs.Setup.{setupOk, settledZero, newLog}
+use Rattle.raft_log.specs.Look.{lookTerm, firstIndex, lastIndex, lastTerm, commitInfo, isUpToDate, byTermIn, findConflictByTerm}
+use Rattle.raft_log.specs.Slice.{sliceBounds, entriesBounds, nextEntriesBoundsSince, hasNextEntriesSince}
 use Rattle.raft_log.specs.declared.Log.{Log}
 use Rattle.raft_log.specs.declared.Appended.{Appended}
 use Rattle.raft_log.specs.declared.Appended.the-variants as appended
@@ -104,8 +104,8 @@ Answered refused leavesOf slice said = Tells refused said (slice ∷ []) (leaves
 
 -- ---- The log
 
-pub log-new-tells : (start startterm last : ℕ) (settled log : List ℕ) → Tells changed.Refused (setupAnswer start startterm last settled) (log ∷ []) (newLogLeaves start startterm last settled log)
-unfolding setupAnswer
+pub log-new-tells : (start startterm last : ℕ) (settled log : List ℕ) → Tells changed.Refused (newLog start startterm last settled) (log ∷ []) (newLogLeaves start startterm last settled log)
+unfolding newLog
 log-new-tells start startterm last settled log =
     behind _ _
     (both-ends (Answered changed.Refused changedLeaves log) (not (setupOk start startterm last settled)) (refuses (omega arith))
@@ -123,28 +123,28 @@ module _ (log settled pending : List ℕ) where
   unfolding lookTerm
   log-term-tells i answer = behind _ _ (behind _ _ (both-ends (Answered looked.Refused lookedLeaves answer) (broken (logFrom log) settled pending) (refuses (omega arith)) (answers (λ n e. cc))))
 
-  pub log-first-index-tells : (answer : List ℕ) → Tells placed.Refused (lookFirst (logFrom log) settled pending) (answer ∷ []) (firstIndexLeaves log settled pending answer)
-  unfolding lookFirst
+  pub log-first-index-tells : (answer : List ℕ) → Tells placed.Refused (firstIndex (logFrom log) settled pending) (answer ∷ []) (firstIndexLeaves log settled pending answer)
+  unfolding firstIndex
   log-first-index-tells answer = behind _ _ (behind _ _ (both-ends (Answered placed.Refused placedLeaves answer) (broken (logFrom log) settled pending) (refuses (omega arith)) (answers (λ n e. cc))))
 
-  pub log-last-index-tells : (answer : List ℕ) → Tells placed.Refused (lookLast (logFrom log) settled pending) (answer ∷ []) (lastIndexLeaves log settled pending answer)
-  unfolding lookLast
+  pub log-last-index-tells : (answer : List ℕ) → Tells placed.Refused (lastIndex (logFrom log) settled pending) (answer ∷ []) (lastIndexLeaves log settled pending answer)
+  unfolding lastIndex
   log-last-index-tells answer = behind _ _ (behind _ _ (both-ends (Answered placed.Refused placedLeaves answer) (broken (logFrom log) settled pending) (refuses (omega arith)) (answers (λ n e. cc))))
 
-  pub log-last-term-tells : (answer : List ℕ) → Tells looked.Refused (lookLastTerm (logFrom log) settled pending) (answer ∷ []) (lastTermLeaves log settled pending answer)
-  unfolding lookLastTerm
+  pub log-last-term-tells : (answer : List ℕ) → Tells looked.Refused (lastTerm (logFrom log) settled pending) (answer ∷ []) (lastTermLeaves log settled pending answer)
+  unfolding lastTerm
   log-last-term-tells answer = behind _ _ (behind _ _ (both-ends (Answered looked.Refused lookedLeaves answer) (broken (logFrom log) settled pending) (refuses (omega arith)) (answers (λ n e. cc))))
 
-  pub log-commit-info-tells : (answer : List ℕ) → Tells info.Refused (lookCommit (logFrom log) settled pending) (answer ∷ []) (commitInfoLeaves log settled pending answer)
-  unfolding lookCommit
+  pub log-commit-info-tells : (answer : List ℕ) → Tells info.Refused (commitInfo (logFrom log) settled pending) (answer ∷ []) (commitInfoLeaves log settled pending answer)
+  unfolding commitInfo
   log-commit-info-tells answer = behind _ _ (behind _ _ (both-ends (Answered info.Refused infoLeaves answer) (broken (logFrom log) settled pending) (refuses (omega arith)) (answers (λ n e. cc))))
 
-  pub log-is-up-to-date-tells : (i t : ℕ) (answer : List ℕ) → Tells told.Refused (lookUpToDate (logFrom log) settled pending i t) (answer ∷ []) (isUpToDateLeaves log settled pending i t answer)
-  unfolding lookUpToDate
+  pub log-is-up-to-date-tells : (i t : ℕ) (answer : List ℕ) → Tells told.Refused (isUpToDate (logFrom log) settled pending i t) (answer ∷ []) (isUpToDateLeaves log settled pending i t answer)
+  unfolding isUpToDate
   log-is-up-to-date-tells i t answer = behind _ _ (behind _ _ (both-ends (Answered told.Refused toldLeaves answer) (broken (logFrom log) settled pending) (refuses (omega arith)) (answers (λ n e. cc))))
 
-  pub log-find-conflict-by-term-tells : (i t : ℕ) (answer : List ℕ) → Tells byterm.Refused (byTerm (logFrom log) settled pending i t) (answer ∷ []) (findConflictByTermLeaves log settled pending i t answer)
-  unfolding byTerm byTermIn
+  pub log-find-conflict-by-term-tells : (i t : ℕ) (answer : List ℕ) → Tells byterm.Refused (findConflictByTerm (logFrom log) settled pending i t) (answer ∷ []) (findConflictByTermLeaves log settled pending i t answer)
+  unfolding findConflictByTerm byTermIn
   log-find-conflict-by-term-tells i t answer =
       behind _ _ (behind _ _
       (both-ends (Answered byterm.Refused byTermLeaves answer) (broken (logFrom log) settled pending) (refuses (omega arith))
@@ -153,10 +153,10 @@ module _ (log settled pending : List ℕ) where
 module _ (log settled pending : List ℕ) (idx term commit : ℕ) (run answer : List ℕ) where
   -- An answer of `maybe_append`, and the pending store after it.
   abbrev Appends : Appended → Type 0
-  Appends said = Tells appended.Refused said (pending ∷ log ∷ answer ∷ []) (withStore (appendStore said pending idx run) (appendedLeaves said log answer))
+  Appends said = Tells appended.Refused said (pending ∷ log ∷ answer ∷ []) (withStore (maybeAppendStore said pending idx run) (appendedLeaves said log answer))
 
-  pub log-maybe-append-tells : Tells appended.Refused (appendAnswer (logFrom log) settled pending idx term commit run) (pending ∷ log ∷ answer ∷ []) (maybeAppendLeaves log settled pending idx term commit run answer)
-  unfolding appendAnswer matchRun decide appendStore
+  pub log-maybe-append-tells : Tells appended.Refused (maybeAppend (logFrom log) settled pending idx term commit run) (pending ∷ log ∷ answer ∷ []) (maybeAppendLeaves log settled pending idx term commit run answer)
+  unfolding maybeAppend matchRun decide maybeAppendStore
   log-maybe-append-tells =
       behind _ _ (behind _ _
       (both-ends Appends (broken (logFrom log) settled pending) (refuses (omega arith))
@@ -170,10 +170,10 @@ module _ (log settled pending : List ℕ) (idx term commit : ℕ) (run answer : 
 module _ (log settled pending run answer : List ℕ) where
   -- An answer of `append`, and the pending store after it.
   abbrev Extends : Extended → Type 0
-  Extends said = Tells extended.Refused said (pending ∷ log ∷ answer ∷ []) (withStore (extendStore said pending run) (extendedLeaves said log answer))
+  Extends said = Tells extended.Refused said (pending ∷ log ∷ answer ∷ []) (withStore (appendRunStore said pending run) (extendedLeaves said log answer))
 
-  pub log-append-tells : Tells extended.Refused (extendAnswer (logFrom log) settled pending run) (pending ∷ log ∷ answer ∷ []) (appendLeaves log settled pending run answer)
-  unfolding extendAnswer extendFrom extendStore
+  pub log-append-tells : Tells extended.Refused (appendRun (logFrom log) settled pending run) (pending ∷ log ∷ answer ∷ []) (appendLeaves log settled pending run answer)
+  unfolding appendRun extendFrom appendRunStore
   log-append-tells =
       behind _ _ (behind _ _
       (both-ends Extends (broken (logFrom log) settled pending) (refuses (omega arith))
@@ -217,10 +217,10 @@ module _ (log settled pending : List ℕ) where
 
   -- An answer without values, and the settled store after it.
   abbrev Settles : Changed → Type 0
-  Settles said = Tells changed.Refused said (settled ∷ log ∷ []) (withStore (settleStore said (logFrom log) settled pending) (changedLeaves said log))
+  Settles said = Tells changed.Refused said (settled ∷ log ∷ []) (withStore (stableEntriesStore said (logFrom log) settled pending) (changedLeaves said log))
 
-  pub log-stable-entries-tells : (i t : ℕ) → Tells changed.Refused (settleAnswer (logFrom log) settled pending i t) (settled ∷ log ∷ []) (stableEntriesLeaves log settled pending i t)
-  unfolding settleAnswer settleStore
+  pub log-stable-entries-tells : (i t : ℕ) → Tells changed.Refused (stableEntries (logFrom log) settled pending i t) (settled ∷ log ∷ []) (stableEntriesLeaves log settled pending i t)
+  unfolding stableEntries stableEntriesStore
   log-stable-entries-tells i t =
       behind _ _
       (both-ends Settles (broken (logFrom log) settled pending) (refuses (omega arith))
@@ -233,11 +233,11 @@ module _ (log settled pending : List ℕ) where
   pub log-entries-tells : (i : ℕ) (answer : List ℕ) → Tells bounds.Refused (entriesBounds (logFrom log) settled pending i) (answer ∷ []) (entriesLeaves log settled pending i answer)
   log-entries-tells i answer = behind _ _ (behind _ _ (bounds-tells answer _ _ settled pending (entries-sound (logFrom log) settled pending i)))
 
-  pub log-next-entries-since-tells : (s : ℕ) (answer : List ℕ) → Tells bounds.Refused (nextBounds (logFrom log) settled pending s) (answer ∷ []) (nextEntriesSinceLeaves log settled pending s answer)
+  pub log-next-entries-since-tells : (s : ℕ) (answer : List ℕ) → Tells bounds.Refused (nextEntriesBoundsSince (logFrom log) settled pending s) (answer ∷ []) (nextEntriesSinceLeaves log settled pending s answer)
   log-next-entries-since-tells s answer = behind _ _ (behind _ _ (bounds-tells answer _ _ settled pending (next-sound (logFrom log) settled pending s)))
 
-  pub log-has-next-entries-since-tells : (s : ℕ) (answer : List ℕ) → Tells told.Refused (hasNextSince (logFrom log) settled pending s) (answer ∷ []) (hasNextEntriesSinceLeaves log settled pending s answer)
-  unfolding hasNextSince
+  pub log-has-next-entries-since-tells : (s : ℕ) (answer : List ℕ) → Tells told.Refused (hasNextEntriesSince (logFrom log) settled pending s) (answer ∷ []) (hasNextEntriesSinceLeaves log settled pending s answer)
+  unfolding hasNextEntriesSince
   log-has-next-entries-since-tells s answer = behind _ _ (behind _ _ (both-ends (Answered told.Refused toldLeaves answer) (broken (logFrom log) settled pending) (refuses (omega arith)) (answers (λ n e. cc))))
 
 -- ---- The quorums, and the leader's step

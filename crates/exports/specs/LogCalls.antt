@@ -3,11 +3,11 @@
 use Prim.Native.Nat.{ℕ}
 use mathlib.Core.Bool.{true, false}
 use mathlib.Core.List.{List, [], _∷_}
-use Rattle.raft_log.specs.Append.{appendAnswer, appendStore}
+use Rattle.raft_log.specs.Append.{maybeAppend, maybeAppendStore}
 use Rattle.raft_log.specs.Commit.{commitTo, appliedTo, maybeCommit, maybePersist}
-use Rattle.raft_log.specs.Extend.{extendAnswer, extendStore}
-use Rattle.raft_log.specs.Settle.{settleAnswer, settleStore}
-use Rattle.raft_log.specs.Setup.{setupAnswer}
+use Rattle.raft_log.specs.Extend.{appendRun, appendRunStore}
+use Rattle.raft_log.specs.Settle.{stableEntries, stableEntriesStore}
+use Rattle.raft_log.specs.Setup.{newLog}
 use Rattle.raft_log.specs.declared.Appended.{Appended}
 use Rattle.raft_log.specs.declared.Appended.the-variants as appended
 use Rattle.raft_log.specs.declared.Changed.{Changed}
@@ -26,11 +26,11 @@ appendedLeaves (appended.Refused number) log answer = leaves number (log ∷ ans
 -- THE PROMISE of `log_maybe_append`: what it leaves of `pending`, `log` and `answer`.
 abbrev pub maybeAppendLeaves : List ℕ → List ℕ → List ℕ → ℕ → ℕ → ℕ → List ℕ → List ℕ → Outcome
 maybeAppendLeaves log settled pending idx term commit run answer =
-    let said = appendAnswer (logFrom log) settled pending idx term commit run in
+    let said = maybeAppend (logFrom log) settled pending idx term commit run in
     let slices = pending ∷ log ∷ answer ∷ [] in
     unlessShort log logLength slices
     (unlessShort answer pairLength slices
-    (withStore (appendStore said pending idx run) (appendedLeaves said log answer)))
+    (withStore (maybeAppendStore said pending idx run) (appendedLeaves said log answer)))
 
 -- ---- The other calls that write
 
@@ -52,16 +52,16 @@ decidedLeaves (decided.Refused number) log answer = leaves number (log ∷ answe
 
 -- THE PROMISE of `log_new`: what it leaves of `log`, whose words it does not read. Any pending store will do.
 abbrev pub newLogLeaves : ℕ → ℕ → ℕ → List ℕ → List ℕ → Outcome
-newLogLeaves start startterm last settled log = unlessShort log logLength (log ∷ []) (changedLeaves (setupAnswer start startterm last settled) log)
+newLogLeaves start startterm last settled log = unlessShort log logLength (log ∷ []) (changedLeaves (newLog start startterm last settled) log)
 
 -- THE PROMISE of `log_append`: what it leaves of `pending`, `log` and `answer`.
 abbrev pub appendLeaves : List ℕ → List ℕ → List ℕ → List ℕ → List ℕ → Outcome
 appendLeaves log settled pending run answer =
-    let said = extendAnswer (logFrom log) settled pending run in
+    let said = appendRun (logFrom log) settled pending run in
     let slices = pending ∷ log ∷ answer ∷ [] in
     unlessShort log logLength slices
     (unlessShort answer singleLength slices
-    (withStore (extendStore said pending run) (extendedLeaves said log answer)))
+    (withStore (appendRunStore said pending run) (extendedLeaves said log answer)))
 
 -- THE PROMISE of `log_commit_to`: what it leaves of `log`.
 abbrev pub commitToLeaves : List ℕ → List ℕ → List ℕ → ℕ → Outcome
@@ -88,6 +88,6 @@ maybePersistLeaves log settled pending i t answer =
 -- THE PROMISE of `log_stable_entries`: what it leaves of `settled` and `log`.
 abbrev pub stableEntriesLeaves : List ℕ → List ℕ → List ℕ → ℕ → ℕ → Outcome
 stableEntriesLeaves log settled pending i t =
-    let said = settleAnswer (logFrom log) settled pending i t in
+    let said = stableEntries (logFrom log) settled pending i t in
     unlessShort log logLength (settled ∷ log ∷ [])
-    (withStore (settleStore said (logFrom log) settled pending) (changedLeaves said log))
+    (withStore (stableEntriesStore said (logFrom log) settled pending) (changedLeaves said log))

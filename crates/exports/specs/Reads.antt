@@ -7,8 +7,8 @@ use mathlib.Core.List.{List, [], _∷_}
 use lib.Dec.{eqb}
 use lib.ListN.{getD, take, drop}
 use Rattle.raft_log.specs.Words.{recordWords, room}
-use Rattle.raft_log.specs.Look.{lookTerm, lookFirst, lookLast, lookLastTerm, lookCommit, lookUpToDate, byTerm}
-use Rattle.raft_log.specs.Slice.{sliceBounds, entriesBounds, nextBounds, hasNextSince}
+use Rattle.raft_log.specs.Look.{lookTerm, firstIndex, lastIndex, lastTerm, commitInfo, isUpToDate, findConflictByTerm}
+use Rattle.raft_log.specs.Slice.{sliceBounds, entriesBounds, nextEntriesBoundsSince, hasNextEntriesSince}
 use Rattle.raft_log.specs.declared.Log.{Log}
 use Rattle.raft_log.specs.declared.Looked.{Looked}
 use Rattle.raft_log.specs.declared.Looked.the-variants as looked
@@ -76,27 +76,27 @@ termLeaves log settled pending i answer = reading log logLength singleLength ans
 
 -- THE PROMISE of `log_first_index`.
 abbrev pub firstIndexLeaves : List ℕ → List ℕ → List ℕ → List ℕ → Outcome
-firstIndexLeaves log settled pending answer = reading log logLength singleLength answer (placedLeaves (lookFirst (logFrom log) settled pending) answer)
+firstIndexLeaves log settled pending answer = reading log logLength singleLength answer (placedLeaves (firstIndex (logFrom log) settled pending) answer)
 
 -- THE PROMISE of `log_last_index`.
 abbrev pub lastIndexLeaves : List ℕ → List ℕ → List ℕ → List ℕ → Outcome
-lastIndexLeaves log settled pending answer = reading log logLength singleLength answer (placedLeaves (lookLast (logFrom log) settled pending) answer)
+lastIndexLeaves log settled pending answer = reading log logLength singleLength answer (placedLeaves (lastIndex (logFrom log) settled pending) answer)
 
 -- THE PROMISE of `log_last_term`.
 abbrev pub lastTermLeaves : List ℕ → List ℕ → List ℕ → List ℕ → Outcome
-lastTermLeaves log settled pending answer = reading log logLength singleLength answer (lookedLeaves (lookLastTerm (logFrom log) settled pending) answer)
+lastTermLeaves log settled pending answer = reading log logLength singleLength answer (lookedLeaves (lastTerm (logFrom log) settled pending) answer)
 
 -- THE PROMISE of `log_commit_info`.
 abbrev pub commitInfoLeaves : List ℕ → List ℕ → List ℕ → List ℕ → Outcome
-commitInfoLeaves log settled pending answer = reading log logLength pairLength answer (infoLeaves (lookCommit (logFrom log) settled pending) answer)
+commitInfoLeaves log settled pending answer = reading log logLength pairLength answer (infoLeaves (commitInfo (logFrom log) settled pending) answer)
 
 -- THE PROMISE of `log_is_up_to_date`.
 abbrev pub isUpToDateLeaves : List ℕ → List ℕ → List ℕ → ℕ → ℕ → List ℕ → Outcome
-isUpToDateLeaves log settled pending i t answer = reading log logLength singleLength answer (toldLeaves (lookUpToDate (logFrom log) settled pending i t) answer)
+isUpToDateLeaves log settled pending i t answer = reading log logLength singleLength answer (toldLeaves (isUpToDate (logFrom log) settled pending i t) answer)
 
 -- THE PROMISE of `log_find_conflict_by_term`.
 abbrev pub findConflictByTermLeaves : List ℕ → List ℕ → List ℕ → ℕ → ℕ → List ℕ → Outcome
-findConflictByTermLeaves log settled pending i t answer = reading log logLength tripleLength answer (byTermLeaves (byTerm (logFrom log) settled pending i t) answer)
+findConflictByTermLeaves log settled pending i t answer = reading log logLength tripleLength answer (byTermLeaves (findConflictByTerm (logFrom log) settled pending i t) answer)
 
 -- THE PROMISE of `log_slice`.
 abbrev pub sliceLeaves : List ℕ → List ℕ → List ℕ → ℕ → ℕ → List ℕ → Outcome
@@ -108,11 +108,11 @@ entriesLeaves log settled pending i answer = reading log logLength partLength an
 
 -- THE PROMISE of `log_next_entries_since`.
 abbrev pub nextEntriesSinceLeaves : List ℕ → List ℕ → List ℕ → ℕ → List ℕ → Outcome
-nextEntriesSinceLeaves log settled pending s answer = reading log logLength partLength answer (boundsLeaves (nextBounds (logFrom log) settled pending s) (logFrom log) answer)
+nextEntriesSinceLeaves log settled pending s answer = reading log logLength partLength answer (boundsLeaves (nextEntriesBoundsSince (logFrom log) settled pending s) (logFrom log) answer)
 
 -- THE PROMISE of `log_has_next_entries_since`.
 abbrev pub hasNextEntriesSinceLeaves : List ℕ → List ℕ → List ℕ → ℕ → List ℕ → Outcome
-hasNextEntriesSinceLeaves log settled pending s answer = reading log logLength singleLength answer (toldLeaves (hasNextSince (logFrom log) settled pending s) answer)
+hasNextEntriesSinceLeaves log settled pending s answer = reading log logLength singleLength answer (toldLeaves (hasNextEntriesSince (logFrom log) settled pending s) answer)
 
 -- The store that a number names.
 abbrev pub storeAt : ℕ → List ℕ → List ℕ → List ℕ

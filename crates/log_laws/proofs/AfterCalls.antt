@@ -16,8 +16,8 @@ use Rattle.raft_log.specs.declared.Changed.the-variants.{Now}
 use Rattle.raft_log.specs.declared.Extended.the-variants.{Last}
 use Rattle.raft_log.specs.Words.{recordWords, room, runCount, putRun}
 use Rattle.raft_log.specs.State.{Good, lastOf}
-use Rattle.raft_log.specs.Extend.{firstOf, extendAnswer, extendStore}
-use Rattle.raft_log.specs.Settle.{settledLog, settleAnswer, settleStore}
+use Rattle.raft_log.specs.Extend.{firstOf, appendRun, appendRunStore}
+use Rattle.raft_log.specs.Settle.{settledLog, stableEntries, stableEntriesStore}
 use Rattle.log_laws.specs.View.{storeEntry, records, runEntries, view-of}
 use Rattle.raft_log.proofs.States.{whole-good}
 use Rattle.raft_log.proofs.Settling.{settle-room}
@@ -49,9 +49,9 @@ module _ (l : Log) (settled pending : List ℕ) where
       (λ i h. pasted-inside settled A pending (l .count) here there i h ∙ ap (storeEntry pending) (omega arith)))
 
   -- THE LOG IS THE SAME after its pending records went over to the settled ones.
-  pub settled-view : (i t : ℕ) (a : Log) → settleAnswer l settled pending i t ≡ Now a
-      → view-of a (settleStore (Now a) l settled pending) pending ≡ view-of l settled pending
-  unfolding settleStore
+  pub settled-view : (i t : ℕ) (a : Log) → stableEntries l settled pending i t ≡ Now a
+      → view-of a (stableEntriesStore (Now a) l settled pending) pending ≡ view-of l settled pending
+  unfolding stableEntriesStore
   settled-view i t a h =
       let r = settle-room l settled pending i t h in
       ap (λ (x : Log). view-of x copied pending) (sym (r .2)) ∙ moved (r .0) (r .1)
@@ -79,7 +79,7 @@ module _ (l : Log) (settled pending run : List ℕ) where
   by-emptiness p false e = cut (whole-good l settled pending (p .whole)) (p .some (eqb-false _ _ e))
 
   -- THE LOG AFTER `append`: an empty run leaves it; else the records before the run's first index stay, and the run's follow.
-  pub extended-view : (i : Index) (a : Log) → extendAnswer l settled pending run ≡ Last i a
-      → Extends (eqb (length run) 0) a (extendStore (Last i a) pending run)
-  unfolding extendStore
+  pub extended-view : (i : Index) (a : Log) → appendRun l settled pending run ≡ Last i a
+      → Extends (eqb (length run) 0) a (appendRunStore (Last i a) pending run)
+  unfolding appendRunStore
   extended-view i a h = by-emptiness (last-allowed l settled pending run h) (eqb (length run) 0) refl

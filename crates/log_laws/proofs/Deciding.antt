@@ -17,7 +17,7 @@ use Rattle.raft_log.specs.Words.{room, storeTerm}
 use Rattle.raft_log.specs.State.{Good, broken, lastOf, termAt}
 use Rattle.raft_log.specs.Append.{withCommitted}
 use Rattle.raft_log.specs.Commit.{withApplied, withPersisted, commitTo, appliedTo, maybeCommit, maybePersist}
-use Rattle.raft_log.specs.Settle.{settledLog, settleAnswer}
+use Rattle.raft_log.specs.Settle.{settledLog, stableEntries}
 use Rattle.raft_log.proofs.States.{good-whole, term-settled}
 use Rattle.log_laws.specs.View.{view-of}
 use Rattle.log_laws.proofs.Views.{view-last, view-start, held-term}
@@ -64,9 +64,9 @@ module _ (l : Log) (settled pending : List ℕ) (good : Good l settled pending) 
   maybe-persist-rule i t = simp fine (ap (λ (b : Bool). cond b (decided.Yes (withPersisted l i)) decided.No) (settled-term i t))
 
   -- "pending's last record must be (i, t)" (10); 7 where the settled store has no room for all records
-  pub stable-entries-rule : (i t : ℕ) → settleAnswer l settled pending i t
+  pub stable-entries-rule : (i t : ℕ) → stableEntries l settled pending i t
       ≡ cond (ltb (room settled) (last view - view .start)) (changed.Refused noRoom) (cond (not (not (eqb (l .count) 0) && eqb i (last view) && eqb (term-of view i) t)) (changed.Refused notPending) (changed.Now (settledLog l)))
-  unfolding settleAnswer
+  unfolding stableEntries
   stable-entries-rule i t =
       simp fine
       (ap₂ (λ (n k : ℕ). cond (ltb (room settled) (n - k)) (changed.Refused noRoom) (cond (not (not (eqb (l .count) 0) && eqb i n && eqb (termAt l settled pending i) t)) (changed.Refused notPending) (changed.Now (settledLog l)))) ends (sym (view-start l settled pending))

@@ -17,9 +17,9 @@ use Rattle.raft_log.specs.declared.Extended.{Extended}
 use Rattle.raft_log.specs.declared.Extended.the-variants as extended
 use Rattle.raft_log.specs.declared.Changed.the-variants as changed
 use Rattle.raft_log.specs.Words.{recordWords, runCount, putRun}
-use Rattle.raft_log.specs.Append.{appendStore}
-use Rattle.raft_log.specs.Extend.{firstOf, extendStore}
-use Rattle.raft_log.specs.Settle.{settleAnswer, settleStore}
+use Rattle.raft_log.specs.Append.{maybeAppendStore}
+use Rattle.raft_log.specs.Extend.{firstOf, appendRunStore}
+use Rattle.raft_log.specs.Settle.{stableEntries, stableEntriesStore}
 use Rattle.raft_log.proofs.Settling.{settle-room}
 use Rattle.log_laws.specs.Frame.{Elsewhere}
 use Rattle.log_laws.proofs.Views.{length-put-or, put-before, put-after, paste-before, paste-after}
@@ -32,13 +32,13 @@ store-elsewhere b s at run k n w h =
 -- `maybe_append`: the records from the conflict up to the message's last index.
 module _ (pending : List ℕ) (idx : ℕ) (run : List ℕ) where
   pub maybe-append-elsewhere : (conflict last : Index) (after : Log) (w : ℕ) → Elsewhere (conflict .0 - after .offset .0) (last .0 + 1 - conflict .0) w
-      → getD (appendStore (appended.Done conflict last after) pending idx run) w 0 ≡ getD pending w 0
-  unfolding appendStore
+      → getD (maybeAppendStore (appended.Done conflict last after) pending idx run) w 0 ≡ getD pending w 0
+  unfolding maybeAppendStore
   maybe-append-elsewhere conflict last after w h =
       store-elsewhere (eqb (conflict .0) 0) pending (conflict .0 - after .offset .0) run (conflict .0 - idx - 1) (last .0 + 1 - conflict .0) w h
 
-  pub maybe-append-length : (a : Appended) → length (appendStore a pending idx run) ≡ length pending
-  unfolding appendStore
+  pub maybe-append-length : (a : Appended) → length (maybeAppendStore a pending idx run) ≡ length pending
+  unfolding maybeAppendStore
   maybe-append-length (appended.Done conflict last after) =
       length-put-or (eqb (conflict .0) 0) pending (conflict .0 - after .offset .0) run (conflict .0 - idx - 1) (last .0 + 1 - conflict .0)
   maybe-append-length (appended.Refused number) = refl
@@ -46,17 +46,17 @@ module _ (pending : List ℕ) (idx : ℕ) (run : List ℕ) where
 -- `append`: the run's records.
 module _ (pending run : List ℕ) where
   pub append-elsewhere : (last : Index) (after : Log) (w : ℕ) → Elsewhere (firstOf run - after .offset .0) (runCount run) w
-      → getD (extendStore (extended.Last last after) pending run) w 0 ≡ getD pending w 0
-  unfolding extendStore
+      → getD (appendRunStore (extended.Last last after) pending run) w 0 ≡ getD pending w 0
+  unfolding appendRunStore
   append-elsewhere last after w h = store-elsewhere (eqb (length run) 0) pending (firstOf run - after .offset .0) run 0 (runCount run) w h
 
-  pub append-length : (a : Extended) → length (extendStore a pending run) ≡ length pending
-  unfolding extendStore
+  pub append-length : (a : Extended) → length (appendRunStore a pending run) ≡ length pending
+  unfolding appendRunStore
   append-length (extended.Last last after) = length-put-or (eqb (length run) 0) pending (firstOf run - after .offset .0) run 0 (runCount run)
   append-length (extended.Refused number) = refl
 
 -- `stable_entries`: the pending records, behind the settled ones.
-module _ (l : Log) (settled pending : List ℕ) (i t : ℕ) (after : Log) (now : settleAnswer l settled pending i t ≡ changed.Now after) where
+module _ (l : Log) (settled pending : List ℕ) (i t : ℕ) (after : Log) (now : stableEntries l settled pending i t ≡ changed.Now after) where
   abbrev behind : ℕ
   behind = l .offset .0 - 1 - l .start .0
 
@@ -65,13 +65,13 @@ module _ (l : Log) (settled pending : List ℕ) (i t : ℕ) (after : Log) (now :
       let r = settle-room l settled pending i t now in
       (omega (arith, r .1, r .0 .start<offset), omega (arith, r .0 .pending-room))
 
-  pub stable-entries-elsewhere : (w : ℕ) → Elsewhere behind (l .count) w → getD (settleStore (changed.Now after) l settled pending) w 0 ≡ getD settled w 0
-  unfolding settleStore
+  pub stable-entries-elsewhere : (w : ℕ) → Elsewhere behind (l .count) w → getD (stableEntriesStore (changed.Now after) l settled pending) w 0 ≡ getD settled w 0
+  unfolding stableEntriesStore
   stable-entries-elsewhere w =
       ⊎-elim
       (paste-before settled (behind * recordWords) pending (l .count * recordWords) w (omega (arith, fits .0)))
       (λ h. paste-after settled (behind * recordWords) pending (l .count * recordWords) w (omega (arith, fits .0)) (fits .1) (omega arith))
 
-  pub stable-entries-length : length (settleStore (changed.Now after) l settled pending) ≡ length settled
-  unfolding settleStore
+  pub stable-entries-length : length (stableEntriesStore (changed.Now after) l settled pending) ≡ length settled
+  unfolding stableEntriesStore
   stable-entries-length = length-paste settled (behind * recordWords) pending (l .count * recordWords) (fits .0) (fits .1)

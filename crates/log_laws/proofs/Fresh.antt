@@ -9,7 +9,7 @@ use Rattle.units.specs.Lists.{listed}
 use Rattle.rules.specs.Log.{Entry, Log as Abstract}
 use Rattle.raft_log.specs.declared.Log.{Log}
 use Rattle.raft_log.specs.declared.Changed.the-variants as changed
-use Rattle.raft_log.specs.Setup.{fresh, setupOk, settledZero, setupAnswer}
+use Rattle.raft_log.specs.Setup.{fresh, setupOk, settledZero, newLog}
 use Rattle.raft_log.proofs.Settling.{no-now}
 use Rattle.log_laws.specs.View.{records, view-of}
 
@@ -23,8 +23,8 @@ module _ (start startterm last : ℕ) (settled pending : List ℕ) where
       let number : last + 1 - 1 - start ≡ last - start = omega arith in
       ap held (append-nil (records (last + 1 - 1 - start) settled) ∙ ap (λ (n : ℕ). records n settled) number)
 
-  pub new-view : (a : Log) → setupAnswer start startterm last settled ≡ changed.Now a → view-of a settled pending ≡ held (records (last - start) settled)
-  unfolding setupAnswer
+  pub new-view : (a : Log) → newLog start startterm last settled ≡ changed.Now a → view-of a settled pending ≡ held (records (last - start) settled)
+  unfolding newLog
   new-view a e =
       let inner = past (settledZero settled (last - start)) no-now (past (not (setupOk start startterm last settled)) no-now e .1) .1 in
       let same : fresh start startterm last ≡ a = cc in

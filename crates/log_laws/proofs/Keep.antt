@@ -23,11 +23,11 @@ use Rattle.raft_log.specs.declared.Decided.the-variants as decided
 use Rattle.raft_log.specs.Words.{room, runCount, firstFrom}
 use Rattle.raft_log.specs.State.{Good, broken, lastOf, termAt}
 use Rattle.raft_log.specs.Run.{termsSet, misnumbered, zeroTermIn}
-use Rattle.raft_log.specs.Append.{differs, withPending, withCommitted, cutLog, cutIf, commitUp, afterMessage, outside, cuts, overfull, appendAnswer, appendStore}
-use Rattle.raft_log.specs.Extend.{firstOf, extendAnswer, extendStore}
+use Rattle.raft_log.specs.Append.{differs, withPending, withCommitted, cutLog, cutIf, commitUp, afterMessage, outside, cuts, overfull, maybeAppend, maybeAppendStore}
+use Rattle.raft_log.specs.Extend.{firstOf, appendRun, appendRunStore}
 use Rattle.raft_log.specs.Commit.{withApplied, mayCommit, mayPersist, commitTo, appliedTo, maybeCommit, maybePersist}
-use Rattle.raft_log.specs.Settle.{settleAnswer, settleStore}
-use Rattle.raft_log.specs.Setup.{setupOk, settledZero, setupAnswer}
+use Rattle.raft_log.specs.Settle.{stableEntries, stableEntriesStore}
+use Rattle.raft_log.specs.Setup.{setupOk, settledZero, newLog}
 use Rattle.raft_log.proofs.States.{split, not-both, neither, whole-good}
 use Rattle.raft_log.proofs.Runs.{numbered-rises}
 use Rattle.raft_log.proofs.Searching.{other-not}
@@ -165,8 +165,8 @@ module _ (l : Log) (settled pending : List ℕ) where
 
 -- ---- set-up
 
-pub new-keeps : (start startterm last : ℕ) (settled pending : List ℕ) → AfterChanged Good (setupAnswer start startterm last settled) settled pending
-unfolding setupAnswer
+pub new-keeps : (start startterm last : ℕ) (settled pending : List ℕ) → AfterChanged Good (newLog start startterm last settled) settled pending
+unfolding newLog
 new-keeps start startterm last settled pending =
     let P : Changed → Type 0 = λ a. AfterChanged Good a settled pending in
     either-end P (not (setupOk start startterm last settled)) (λ _. tt) (λ h.
@@ -201,13 +201,13 @@ module _ (l : Log) (settled pending : List ℕ) where
       (omega arith) (omega arith) (omega (arith, g .last≤limit))
 
   pub stable-entries-keeps : (i t : ℕ)
-      → AfterChanged Good (settleAnswer l settled pending i t) (settleStore (settleAnswer l settled pending i t) l settled pending) pending
-  stable-entries-keeps i t = go (settleAnswer l settled pending i t) refl
+      → AfterChanged Good (stableEntries l settled pending i t) (stableEntriesStore (stableEntries l settled pending i t) l settled pending) pending
+  stable-entries-keeps i t = go (stableEntries l settled pending i t) refl
     where
-      go : (x : Changed) → settleAnswer l settled pending i t ≡ x → AfterChanged Good x (settleStore x l settled pending) pending
+      go : (x : Changed) → stableEntries l settled pending i t ≡ x → AfterChanged Good x (stableEntriesStore x l settled pending) pending
       go (changed.Now a) e =
           let (good, fits, same) = settle-room l settled pending i t e in
-          subst (λ (x : Log). Good x (settleStore (changed.Now a) l settled pending) pending) same
+          subst (λ (x : Log). Good x (stableEntriesStore (changed.Now a) l settled pending) pending) same
           (all-settled good fits _ (stable-entries-length l settled pending i t a e))
       go (changed.Refused number) e = tt
 
@@ -259,10 +259,10 @@ module _ (l : Log) (settled pending : List ℕ) where
       in-place-good (firstOf run) (runCount run) g (numbered-rises run (firstOf run - 1) (not-false _ (bad .1)) .limited) (p .some some))
       (same? (length run) 0)
 
-  pub append-keeps : (run : List ℕ) → AfterExtended Good (extendAnswer l settled pending run) settled (extendStore (extendAnswer l settled pending run) pending run)
-  append-keeps run = go (extendAnswer l settled pending run) refl
+  pub append-keeps : (run : List ℕ) → AfterExtended Good (appendRun l settled pending run) settled (appendRunStore (appendRun l settled pending run) pending run)
+  append-keeps run = go (appendRun l settled pending run) refl
     where
-      go : (x : Extended) → extendAnswer l settled pending run ≡ x → AfterExtended Good x settled (extendStore x pending run)
+      go : (x : Extended) → appendRun l settled pending run ≡ x → AfterExtended Good x settled (appendRunStore x pending run)
       go (extended.Last i a) e = same-room (allowed-good run (last-allowed l settled pending run e)) refl (append-length pending run _)
       go (extended.Refused number) e = tt
 
@@ -297,10 +297,10 @@ module _ {l : Log} {settled pending : List ℕ} (g : Good l settled pending) whe
 
 module _ (l : Log) (settled pending : List ℕ) where
   pub maybe-append-keeps : (idx term commit : ℕ) (run : List ℕ)
-      → AfterAppended Good (appendAnswer l settled pending idx term commit run) settled (appendStore (appendAnswer l settled pending idx term commit run) pending idx run)
-  maybe-append-keeps idx term commit run = go (appendAnswer l settled pending idx term commit run) refl
+      → AfterAppended Good (maybeAppend l settled pending idx term commit run) settled (maybeAppendStore (maybeAppend l settled pending idx term commit run) pending idx run)
+  maybe-append-keeps idx term commit run = go (maybeAppend l settled pending idx term commit run) refl
     where
-      go : (x : Appended) → appendAnswer l settled pending idx term commit run ≡ x → AfterAppended Good x settled (appendStore x pending idx run)
+      go : (x : Appended) → maybeAppend l settled pending idx term commit run ≡ x → AfterAppended Good x settled (maybeAppendStore x pending idx run)
       go (appended.Done c m a) e =
           let n : ℕ = runCount run in
           let k : ℕ = firstFrom (differs l settled pending idx run) 0 (runCount run) in

@@ -21,7 +21,7 @@ use Rattle.raft_log.specs.declared.Info.the-variants as info
 use Rattle.raft_log.specs.declared.Told.the-variants as told
 use Rattle.raft_log.specs.declared.ByTerm.the-variants as byterm
 use Rattle.raft_log.specs.State.{Good, broken, lastOf, termAt}
-use Rattle.raft_log.specs.Look.{lookTerm, lookFirst, lookLast, lookLastTerm, lookCommit, lookUpToDate, lastDown, atMost, foundAt, byTermIn, byTerm}
+use Rattle.raft_log.specs.Look.{lookTerm, firstIndex, lastIndex, lastTerm, commitInfo, isUpToDate, lastDown, atMost, foundAt, byTermIn, findConflictByTerm}
 use Rattle.raft_log.proofs.States.{good-whole, zero-start, term-below, term-start}
 use Rattle.log_laws.specs.View.{view-of}
 use Rattle.log_laws.specs.Looking.{FoundBelow}
@@ -59,20 +59,20 @@ module _ (l : Log) (settled pending : List ℕ) (good : Good l settled pending) 
   unfolding lookTerm
   term-view i = rw (sound, held-term l settled pending good i)
 
-  pub first-index-view : lookFirst l settled pending ≡ placed.At (indexOf (view-of l settled pending .start + 1))
-  unfolding lookFirst
+  pub first-index-view : firstIndex l settled pending ≡ placed.At (indexOf (view-of l settled pending .start + 1))
+  unfolding firstIndex
   first-index-view = rw (sound, view-start l settled pending)
 
-  pub last-index-view : lookLast l settled pending ≡ placed.At (indexOf (last (view-of l settled pending)))
-  unfolding lookLast
+  pub last-index-view : lastIndex l settled pending ≡ placed.At (indexOf (last (view-of l settled pending)))
+  unfolding lastIndex
   last-index-view = rw (sound, view-last l settled pending good)
 
-  pub last-term-view : lookLastTerm l settled pending ≡ looked.At (termOf (term-of (view-of l settled pending) (last (view-of l settled pending))))
-  unfolding lookLastTerm
+  pub last-term-view : lastTerm l settled pending ≡ looked.At (termOf (term-of (view-of l settled pending) (last (view-of l settled pending))))
+  unfolding lastTerm
   last-term-view = rw (sound, last-term)
 
-  pub commit-info-view : lookCommit l settled pending ≡ info.At (l .committed) (termOf (term-of (view-of l settled pending) (l .committed .0)))
-  unfolding lookCommit
+  pub commit-info-view : commitInfo l settled pending ≡ info.At (l .committed) (termOf (term-of (view-of l settled pending) (l .committed .0)))
+  unfolding commitInfo
   commit-info-view = rw (sound, held-term l settled pending good (l .committed .0))
 
   -- the term at 0 is 0: below the start, or at a start of (0, 0)
@@ -99,14 +99,14 @@ module _ (l : Log) (settled pending : List ℕ) (good : Good l settled pending) 
       largest = λ k h g. omega (arith, leb-false (termAt l settled pending k) t (down-miss low-enough i k h g), held-term l settled pending good k);
     }
 
-    pub find-conflict-view : (j : Index) (u : Term) → byTerm l settled pending i t ≡ byterm.Found j u → FoundBelow (view-of l settled pending) i t (j .0) (u .0)
-    unfolding byTerm byTermIn
+    pub find-conflict-view : (j : Index) (u : Term) → findConflictByTerm l settled pending i t ≡ byterm.Found j u → FoundBelow (view-of l settled pending) i t (j .0) (u .0)
+    unfolding findConflictByTerm byTermIn
     find-conflict-view j u e =
         let inside : foundAt l settled pending down ≡ byterm.Found j u = past (ltb (lastOf l) i) (λ far. never cc) (rw sound at e) .1 in
         let p : indexOf down ≡ j = cc in
         let q : termOf (termAt l settled pending down) ≡ u = cc in
         rw (sym p, sym q) found-below
 
-  pub up-to-date-view : (i t : ℕ) → lookUpToDate l settled pending i t ≡ told.Is (ltb (term-of (view-of l settled pending) (last (view-of l settled pending))) t || (eqb t (term-of (view-of l settled pending) (last (view-of l settled pending))) && leb (last (view-of l settled pending)) i))
-  unfolding lookUpToDate
+  pub up-to-date-view : (i t : ℕ) → isUpToDate l settled pending i t ≡ told.Is (ltb (term-of (view-of l settled pending) (last (view-of l settled pending))) t || (eqb t (term-of (view-of l settled pending) (last (view-of l settled pending))) && leb (last (view-of l settled pending)) i))
+  unfolding isUpToDate
   up-to-date-view i t = rw (sound, held-term l settled pending good (lastOf l), view-last l settled pending good)

@@ -26,7 +26,7 @@ use Rattle.raft_log.specs.declared.Appended.the-variants.{Done, Refused}
 use Rattle.raft_log.specs.Words.{room, runCount, runTerm, firstFrom, putRun}
 use Rattle.raft_log.specs.State.{Good, lastOf, broken, termAt}
 use Rattle.raft_log.specs.Run.{misnumbered, zeroTermIn, zeroAt, termsSet}
-use Rattle.raft_log.specs.Append.{cuts, accepted, decide, matchRun, appendAnswer, outside, mismatched, differs, cutIf, commitUp, afterMessage, overfull, appendStore}
+use Rattle.raft_log.specs.Append.{cuts, accepted, decide, matchRun, maybeAppend, outside, mismatched, differs, cutIf, commitUp, afterMessage, overfull, maybeAppendStore}
 use Rattle.log_laws.specs.View.{runEntry, runEntries, view-of, messageOf}
 use Rattle.raft_log.proofs.States.{refuted, neither, whole-good, no-term}
 use Rattle.raft_log.proofs.Searching.{found}
@@ -176,14 +176,14 @@ module _ (l : Log) (settled pending : List ℕ) (good : Good l settled pending) 
     abbrev result : Bool → Abstract
     result b =
         view-of (after b) settled
-        (appendStore (Done (indexOf (cond b (idx + 1 + k) 0)) (indexOf (idx + n)) (after b)) pending idx run)
+        (maybeAppendStore (Done (indexOf (cond b (idx + 1 + k) 0)) (indexOf (idx + n)) (after b)) pending idx run)
 
     result-none : v ≡ result false
-    unfolding appendStore view-of
+    unfolding maybeAppendStore view-of
     result-none = refl
 
     result-cut : k < n → after true .count ≤ room pending → cut-on v (idx + 1 + k) (drop k es) ≡ result true
-    unfolding appendStore view-of
+    unfolding maybeAppendStore view-of
     result-cut h r =
         let conflict : ℕ = idx + 1 + k in
         let from : ℕ = conflict - idx - 1 in
@@ -223,7 +223,7 @@ module _ (l : Log) (settled pending : List ℕ) (idx term commit : ℕ) (run : L
     pub committed : after .committed .0 ≡ max (l .committed .0) commit-index
 
   abbrev TakenBy : Appended → Type 0
-  TakenBy (Done c m a) = Taken a (appendStore (Done c m a) pending idx run)
+  TakenBy (Done c m a) = Taken a (maybeAppendStore (Done c m a) pending idx run)
   TakenBy (Refused r) = Unit {0}
 
   abbrev count : ℕ
@@ -253,7 +253,7 @@ module _ (l : Log) (settled pending : List ℕ) (idx term commit : ℕ) (run : L
       }
 
   -- THE THEOREM, where the message is taken: the steps of the paper, in order.
-  pub taken : (c m : Index) (a : Log) → appendAnswer l settled pending idx term commit run ≡ Done c m a → Taken a (appendStore (Done c m a) pending idx run)
+  pub taken : (c m : Index) (a : Log) → maybeAppend l settled pending idx term commit run ≡ Done c m a → Taken a (maybeAppendStore (Done c m a) pending idx run)
   taken c m a h =
       let (passed, answer) = done-passed l settled pending idx term commit run h in
       let good = whole-good l settled pending (passed .whole) in
@@ -261,8 +261,8 @@ module _ (l : Log) (settled pending : List ℕ) (idx term commit : ℕ) (run : L
       subst TakenBy answer (accepted-taken good there (not-false _ (passed .formed .1)) (passed .room))
 
   -- and where it is refused by 4 or 5: step 2 replies false
-  pub refused : (s : ℕ) → (s ≡ outsideLog) ⊎ (s ≡ mismatch) → appendAnswer l settled pending idx term commit run ≡ Refused s → by-the-paper ≡ reply-false
-  unfolding appendAnswer matchRun decide receiver
+  pub refused : (s : ℕ) → (s ≡ outsideLog) ⊎ (s ≡ mismatch) → maybeAppend l settled pending idx term commit run ≡ Refused s → by-the-paper ≡ reply-false
+  unfolding maybeAppend matchRun decide receiver
   refused s w h =
       let low : outsideLog ≤ s = ⊎-elim (λ e. omega arith) (λ e. omega arith) w in
       let high : s ≤ mismatch = ⊎-elim (λ e. omega arith) (λ e. omega arith) w in
@@ -282,15 +282,15 @@ module _ (l : Log) (settled pending : List ℕ) (idx term commit : ℕ) (run : L
 
   tests : (a b : Bool) → outside l idx term ≡ a → mismatched l settled pending idx term ≡ b → not (a || b) ≡ false
       → broken l settled pending ≡ false → misnumbered run idx ≡ false → zeroTermIn run ≡ false
-      → (appendAnswer l settled pending idx term commit run ≡ Refused outsideLog) ⊎ (appendAnswer l settled pending idx term commit run ≡ Refused mismatch)
-  unfolding appendAnswer matchRun
+      → (maybeAppend l settled pending idx term commit run ≡ Refused outsideLog) ⊎ (maybeAppend l settled pending idx term commit run ≡ Refused mismatch)
+  unfolding maybeAppend matchRun
   tests true b o p h h1 h2 h3 = inl (simp (h1, h2, h3, o))
   tests false true o p h h1 h2 h3 = inr (simp (h1, h2, h3, o, p))
   tests false false o p h h1 h2 h3 = absurd (false≢true (sym h))
 
   -- and back: where step 2 replies false to a message that 1, 2 and 3 let through, it is refused by 4 or 5
   pub refuses : broken l settled pending ≡ false → misnumbered run idx ≡ false → zeroTermIn run ≡ false → by-the-paper ≡ reply-false
-      → (appendAnswer l settled pending idx term commit run ≡ Refused outsideLog) ⊎ (appendAnswer l settled pending idx term commit run ≡ Refused mismatch)
+      → (maybeAppend l settled pending idx term commit run ≡ Refused outsideLog) ⊎ (maybeAppend l settled pending idx term commit run ≡ Refused mismatch)
   unfolding receiver
   refuses h1 h2 h3 h =
       let good = whole-good l settled pending h1 in

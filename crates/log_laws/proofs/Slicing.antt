@@ -18,7 +18,7 @@ use Rattle.raft_log.specs.declared.Bounds.{Bounds}
 use Rattle.raft_log.specs.declared.Bounds.the-variants as bounds
 use Rattle.raft_log.specs.declared.Told.the-variants as told
 use Rattle.raft_log.specs.State.{Good, broken, lastOf}
-use Rattle.raft_log.specs.Slice.{inStore, sliceIn, sliceBounds, entriesBounds, nextLow, nextHigh, hasNext, hasNextSince, nextBounds, storePart, partOf}
+use Rattle.raft_log.specs.Slice.{inStore, sliceIn, sliceBounds, entriesBounds, nextLow, nextHigh, hasNext, hasNextEntriesSince, nextEntriesBoundsSince, storePart, partOf}
 use Rattle.log_laws.specs.View.{storeEntry, view-of}
 use Rattle.log_laws.specs.Slicing.{Reads, Askable, Part, Gives}
 use Rattle.raft_log.proofs.States.{good-whole, whole-good, not-both, refuted}
@@ -100,11 +100,11 @@ module _ (l : Log) (settled pending : List ℕ) where
 
   module _ (s : ℕ) where
     abbrev says-no : Type 0
-    says-no = hasNextSince l settled pending s ≡ told.Is false
+    says-no = hasNextEntriesSince l settled pending s ≡ told.Is false
 
     -- 01: "`next_entries_since` gives that range as a slice, or nothing".
-    pub next-gives : Gives l settled pending (nextLow l s) (nextHigh l) says-no (nextBounds l settled pending s)
-    unfolding nextBounds hasNextSince
+    pub next-gives : Gives l settled pending (nextLow l s) (nextHigh l) says-no (nextEntriesBoundsSince l settled pending s)
+    unfolding nextEntriesBoundsSince hasNextEntriesSince
     next-gives =
         unless-broken (nextLow l s) (nextHigh l) says-no _
         (λ good.
@@ -125,8 +125,8 @@ module _ (l : Log) (settled pending : List ℕ) where
     pub entries-empty : (i : ℕ) → last view < i → entriesBounds l settled pending i ≡ bounds.Empty
     entries-empty i h = entries-none l settled pending i (good-whole l settled pending good) (omega (arith, view-last l settled pending good))
 
-    pub next-empty : (s : ℕ) → says-no s → nextBounds l settled pending s ≡ bounds.Empty
-    unfolding hasNextSince
+    pub next-empty : (s : ℕ) → says-no s → nextEntriesBoundsSince l settled pending s ≡ bounds.Empty
+    unfolding hasNextEntriesSince
     next-empty s h = next-none l settled pending s (good-whole l settled pending good) (let no : told.Is (hasNext l s) ≡ told.Is false = rw (good-whole l settled pending good) at h in cc)
 
     next-rule : (s : ℕ) → hasNext l s ≡ ltb (nextLow l s) (nextHigh l)
@@ -136,8 +136,8 @@ module _ (l : Log) (settled pending : List ℕ) where
         (below-or-not s wordMax)
 
     -- 01, `has_next_entries_since(s)`: "min(committed, persisted) + 1 > max(s + 1, start + 1)". That the answer is no for s = u64::MAX follows from the limit of indices.
-    pub has-next-rule : (s : ℕ) → hasNextSince l settled pending s ≡ told.Is (ltb (nextLow l s) (nextHigh l))
-    unfolding hasNextSince
+    pub has-next-rule : (s : ℕ) → hasNextEntriesSince l settled pending s ≡ told.Is (ltb (nextLow l s) (nextHigh l))
+    unfolding hasNextEntriesSince
     has-next-rule s = rw (good-whole l settled pending good, next-rule s)
 
 -- PARTS JOINED (01: "Oracle runs join such parts and compare the whole"): where an answer of any of the three calls ended before high, it ended at the store boundary, a slice from there on reaches high, and both parts together are the whole range.

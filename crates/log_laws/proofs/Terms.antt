@@ -25,11 +25,11 @@ use Rattle.raft_log.specs.declared.Appended.the-variants as appended
 use Rattle.raft_log.specs.Words.{runCount, none}
 use Rattle.raft_log.specs.State.{Good, termAt}
 use Rattle.raft_log.specs.Run.{zeroTermIn, termsSet}
-use Rattle.raft_log.specs.Append.{appendAnswer, appendStore}
-use Rattle.raft_log.specs.Extend.{firstOf, extendAnswer, extendStore}
+use Rattle.raft_log.specs.Append.{maybeAppend, maybeAppendStore}
+use Rattle.raft_log.specs.Extend.{firstOf, appendRun, appendRunStore}
 use Rattle.raft_log.specs.Commit.{commitTo, appliedTo, maybeCommit, maybePersist}
-use Rattle.raft_log.specs.Settle.{settleAnswer, settleStore}
-use Rattle.raft_log.specs.Setup.{setupOk, settledZero, setupAnswer}
+use Rattle.raft_log.specs.Settle.{stableEntries, stableEntriesStore}
+use Rattle.raft_log.specs.Setup.{setupOk, settledZero, newLog}
 use Rattle.raft_log.proofs.States.{no-term, zero-start}
 use Rattle.raft_log.proofs.Searching.{none-below}
 use Rattle.raft_log.proofs.Extending.{last-allowed}
@@ -82,8 +82,8 @@ module _ (l : Log) (settled pending : List ℕ) (set : TermsSet l settled pendin
 
 -- ---- set-up
 
-pub new-terms : (start startterm last : ℕ) (settled pending : List ℕ) → AfterChanged TermsSet (setupAnswer start startterm last settled) settled pending
-unfolding setupAnswer
+pub new-terms : (start startterm last : ℕ) (settled pending : List ℕ) → AfterChanged TermsSet (newLog start startterm last settled) settled pending
+unfolding newLog
 new-terms start startterm last settled pending =
     let P : Changed → Type 0 = λ a. AfterChanged TermsSet a settled pending in
     either-end P (not (setupOk start startterm last settled)) (λ _. tt) (λ h.
@@ -94,10 +94,10 @@ module _ (l : Log) (settled pending : List ℕ) (set : TermsSet l settled pendin
   -- ---- `stable_entries`
 
   pub stable-entries-terms : (i t : ℕ)
-      → AfterChanged TermsSet (settleAnswer l settled pending i t) (settleStore (settleAnswer l settled pending i t) l settled pending) pending
-  stable-entries-terms i t = go (settleAnswer l settled pending i t) refl
+      → AfterChanged TermsSet (stableEntries l settled pending i t) (stableEntriesStore (stableEntries l settled pending i t) l settled pending) pending
+  stable-entries-terms i t = go (stableEntries l settled pending i t) refl
     where
-      go : (x : Changed) → settleAnswer l settled pending i t ≡ x → AfterChanged TermsSet x (settleStore x l settled pending) pending
+      go : (x : Changed) → stableEntries l settled pending i t ≡ x → AfterChanged TermsSet x (stableEntriesStore x l settled pending) pending
       go (changed.Now a) e = subst NonzeroTerms (sym (settled-view l settled pending i t a e)) set
       go (changed.Refused number) e = tt
 
@@ -111,10 +111,10 @@ module _ (l : Log) (settled pending : List ℕ) (set : TermsSet l settled pendin
       let held : List Entry = view-of l settled pending .entries in
       subst NonzeroTerms (sym e) (set-nonzero _ (each-append TermSet (take before held) (runEntries run) (each-take TermSet before held (nonzero-set _ set)) (run-set run z)))
 
-  pub append-terms : (run : List ℕ) → AfterExtended TermsSet (extendAnswer l settled pending run) settled (extendStore (extendAnswer l settled pending run) pending run)
-  append-terms run = go (extendAnswer l settled pending run) refl
+  pub append-terms : (run : List ℕ) → AfterExtended TermsSet (appendRun l settled pending run) settled (appendRunStore (appendRun l settled pending run) pending run)
+  append-terms run = go (appendRun l settled pending run) refl
     where
-      go : (x : Extended) → extendAnswer l settled pending run ≡ x → AfterExtended TermsSet x settled (extendStore x pending run)
+      go : (x : Extended) → appendRun l settled pending run ≡ x → AfterExtended TermsSet x settled (appendRunStore x pending run)
       go (extended.Last i a) e =
           extends-terms run (last-allowed l settled pending run e .formed .1) (eqb (length run) 0) a _ (extended-view l settled pending run i a e)
       go (extended.Refused number) e = tt
@@ -122,10 +122,10 @@ module _ (l : Log) (settled pending : List ℕ) (set : TermsSet l settled pendin
   -- ---- `maybe_append`
 
   pub maybe-append-terms : (idx term commit : ℕ) (run : List ℕ)
-      → AfterAppended TermsSet (appendAnswer l settled pending idx term commit run) settled (appendStore (appendAnswer l settled pending idx term commit run) pending idx run)
-  maybe-append-terms idx term commit run = go (appendAnswer l settled pending idx term commit run) refl
+      → AfterAppended TermsSet (maybeAppend l settled pending idx term commit run) settled (maybeAppendStore (maybeAppend l settled pending idx term commit run) pending idx run)
+  maybe-append-terms idx term commit run = go (maybeAppend l settled pending idx term commit run) refl
     where
-      go : (x : Appended) → appendAnswer l settled pending idx term commit run ≡ x → AfterAppended TermsSet x settled (appendStore x pending idx run)
+      go : (x : Appended) → maybeAppend l settled pending idx term commit run ≡ x → AfterAppended TermsSet x settled (maybeAppendStore x pending idx run)
       go (appended.Done c m a) e =
           subst AfterSteps (taken l settled pending idx term commit run c m a e .steps)
           (receiver-nonzero _ (l .committed .0) (messageOf idx term commit run) set (run-set run (done-passed l settled pending idx term commit run e .0 .formed .1)))

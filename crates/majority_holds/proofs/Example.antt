@@ -22,7 +22,7 @@ use Rattle.quorum.specs.declared.rows.Ack.the-variants as ack
 use Rattle.quorum.specs.declared.rows.Vote.the-variants as vote
 use Rattle.raft_log.specs.Append.{withCommitted}
 use Rattle.raft_log.specs.Commit.{maybeCommit}
-use Rattle.raft_log.specs.Setup.{fresh, setupOk, setupAnswer}
+use Rattle.raft_log.specs.Setup.{fresh, setupOk, newLog}
 use Rattle.log_laws.proofs.Nonzero.{set-nonzero}
 use Rattle.leader.specs.Leader.{leaderCommit}
 use Rattle.two_ends.specs.Follower.{Follower, held, engine, set-up}
@@ -53,7 +53,7 @@ peers = at-one 1 ∷ at-one 2 ∷ []
 
 -- What it all computes through.
 unfoldable concrete : Unit {0}
-unfolding at-the-ends setupOk setupAnswer maybeCommit leaderCommit count insert falling kth-largest committed position has distinct halfIndex jointIndex
+unfolding at-the-ends setupOk newLog maybeCommit leaderCommit count insert falling kth-largest committed position has distinct halfIndex jointIndex
 concrete = tt
 
 only-start : (j : ℕ) → j ≤ 0 → Same (held empty) (whole-list the-list) j

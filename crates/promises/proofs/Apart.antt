@@ -11,13 +11,13 @@ use Rattle.units.specs.Lists.{listed}
 use Rattle.raft_log.specs.Words.{putRun, firstFrom}
 use Rattle.raft_log.specs.State.{stateOk, termAt}
 use Rattle.raft_log.specs.Run.{numbered, termsSet}
-use Rattle.raft_log.specs.Append.{outside, decide, matchRun, appendAnswer, appendStore}
-use Rattle.raft_log.specs.Extend.{extendFrom, extendAnswer, extendStore}
+use Rattle.raft_log.specs.Append.{outside, decide, matchRun, maybeAppend, maybeAppendStore}
+use Rattle.raft_log.specs.Extend.{extendFrom, appendRun, appendRunStore}
 use Rattle.raft_log.specs.Commit.{commitTo, appliedTo, maybeCommit, maybePersist}
-use Rattle.raft_log.specs.Settle.{settleAnswer, settleStore}
-use Rattle.raft_log.specs.Look.{lookTerm, lookFirst, lookLast, lookLastTerm, lookCommit, lookUpToDate, lastDown, byTermIn, byTerm}
-use Rattle.raft_log.specs.Slice.{inStore, sliceIn, sliceBounds, entriesBounds, hasNext, hasNextSince, nextBounds, storePart, partOf}
-use Rattle.raft_log.specs.Setup.{setupOk, setupAnswer}
+use Rattle.raft_log.specs.Settle.{stableEntries, stableEntriesStore}
+use Rattle.raft_log.specs.Look.{lookTerm, firstIndex, lastIndex, lastTerm, commitInfo, isUpToDate, lastDown, byTermIn, findConflictByTerm}
+use Rattle.raft_log.specs.Slice.{inStore, sliceIn, sliceBounds, entriesBounds, hasNext, hasNextEntriesSince, nextEntriesBoundsSince, storePart, partOf}
+use Rattle.raft_log.specs.Setup.{setupOk, newLog}
 use Rattle.rules.specs.Count.{count}
 use Rattle.rules.specs.Majority.{insert, falling, kth-largest, committed}
 use Rattle.quorum.specs.Ids.{position, has, distinct}
@@ -31,7 +31,7 @@ use Rattle.exports.specs.Words.{logLength, Outcome, leaves}
 
 -- To name one of these on an `unfolding` line is to open each of its names, and `flatten`, by which the words of an outcome are joined.
 unfoldable pub log-promises : Unit {0}
-unfolding flatten putRun firstFrom stateOk termAt numbered termsSet outside decide matchRun appendAnswer appendStore extendFrom extendAnswer extendStore commitTo appliedTo maybeCommit maybePersist settleAnswer settleStore lookTerm lookFirst lookLast lookLastTerm lookCommit lookUpToDate lastDown byTermIn byTerm inStore sliceIn sliceBounds entriesBounds hasNext hasNextSince nextBounds storePart partOf setupOk setupAnswer
+unfolding flatten putRun firstFrom stateOk termAt numbered termsSet outside decide matchRun maybeAppend maybeAppendStore extendFrom appendRun appendRunStore commitTo appliedTo maybeCommit maybePersist stableEntries stableEntriesStore lookTerm firstIndex lastIndex lastTerm commitInfo isUpToDate lastDown byTermIn findConflictByTerm inStore sliceIn sliceBounds entriesBounds hasNext hasNextEntriesSince nextEntriesBoundsSince storePart partOf setupOk newLog
 log-promises = tt
 
 unfoldable pub quorum-promises : Unit {0}

@@ -14,7 +14,7 @@ use Rattle.rules.proofs.Count.{count-none, count-miss}
 use Rattle.quorum.specs.Ids.{position, has, distinct}
 use Rattle.quorum.specs.Voters.{setOf}
 use Rattle.quorum.specs.Joint.{oneSet}
-use Rattle.raft_log.specs.Settle.{settleAnswer, settleStore}
+use Rattle.raft_log.specs.Settle.{stableEntries, stableEntriesStore}
 use Rattle.two_ends.specs.Follower.{Follower, held, Message, WellFormed, engine, HasRoom, settles, does, arrives, between, follow, Made}
 use Rattle.two_ends.specs.Leader.{as-run, cut, CutFrom}
 use Rattle.two_ends.specs.TwoEnds.{Premises, Possible, Trace, HoldsPrevious, Accepts, Keeps, TwoEnds, Theorem, NeverDiffer}
@@ -171,7 +171,7 @@ rounds =
     ∷ record { count = 1; others = []; besides = tt } ∷ []
 
 rooms : AtEach HasRoom engine follower 1 rounds
-unfolding concrete does settleAnswer settleStore AtEach rounds
+unfolding concrete does stableEntries stableEntriesStore AtEach rounds
 rooms = (refl, (refl, tt))
 
 pub caught-up : CaughtUp leader 4 follower (follow engine follower (sending 1 rounds))

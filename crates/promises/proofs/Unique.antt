@@ -33,13 +33,13 @@ use Rattle.inflights.specs.Calls.{madeWindow, capped, fullness, added, ringAfte
 use Rattle.inflights.specs.InPlace.{stepOf, Stored}
 use Rattle.inflights.specs.declared.Inflights.{Inflights}
 use Rattle.inflights.specs.declared.Step.{Step}
-use Rattle.raft_log.specs.Setup.{setupAnswer}
-use Rattle.raft_log.specs.Look.{lookTerm, lookFirst, lookLast, lookLastTerm, lookCommit, lookUpToDate, byTerm}
-use Rattle.raft_log.specs.Append.{appendAnswer, appendStore}
-use Rattle.raft_log.specs.Extend.{extendAnswer, extendStore}
+use Rattle.raft_log.specs.Setup.{newLog}
+use Rattle.raft_log.specs.Look.{lookTerm, firstIndex, lastIndex, lastTerm, commitInfo, isUpToDate, findConflictByTerm}
+use Rattle.raft_log.specs.Append.{maybeAppend, maybeAppendStore}
+use Rattle.raft_log.specs.Extend.{appendRun, appendRunStore}
 use Rattle.raft_log.specs.Commit.{commitTo, maybeCommit, appliedTo, maybePersist}
-use Rattle.raft_log.specs.Settle.{settleAnswer, settleStore}
-use Rattle.raft_log.specs.Slice.{sliceBounds, entriesBounds, hasNextSince, nextBounds, partOf}
+use Rattle.raft_log.specs.Settle.{stableEntries, stableEntriesStore}
+use Rattle.raft_log.specs.Slice.{sliceBounds, entriesBounds, hasNextEntriesSince, nextEntriesBoundsSince, partOf}
 use Rattle.raft_log.specs.declared.Log.{Log}
 use Rattle.leader.specs.Leader.{leaderCommit, commitFound}
 use Rattle.exports.specs.Words.{Outcome, leaves}
@@ -283,36 +283,36 @@ module _ (w : Inflights) (ring : List ℕ) where
 
 -- ---- raft_log: the log over two lent stores (raft_log.rs, log_unstable.rs)
 
-pub log-new : (start : Index) (startterm : Term) (last : Index) (settled pending : List ℕ) → OneAnswer (_≡ setupAnswer (start .0) (startterm .0) (last .0) settled)
+pub log-new : (start : Index) (startterm : Term) (last : Index) (settled pending : List ℕ) → OneAnswer (_≡ newLog (start .0) (startterm .0) (last .0) settled)
 log-new start startterm last settled pending = one-answer
 
 module _ (self : Log) (settled pending : List ℕ) where
   pub log-term : (i : Index) → OneAnswer (_≡ lookTerm self settled pending (i .0))
   log-term i = one-answer
 
-  pub log-first-index : OneAnswer (_≡ lookFirst self settled pending)
+  pub log-first-index : OneAnswer (_≡ firstIndex self settled pending)
   log-first-index = one-answer
 
-  pub log-last-index : OneAnswer (_≡ lookLast self settled pending)
+  pub log-last-index : OneAnswer (_≡ lastIndex self settled pending)
   log-last-index = one-answer
 
-  pub log-last-term : OneAnswer (_≡ lookLastTerm self settled pending)
+  pub log-last-term : OneAnswer (_≡ lastTerm self settled pending)
   log-last-term = one-answer
 
-  pub log-commit-info : OneAnswer (_≡ lookCommit self settled pending)
+  pub log-commit-info : OneAnswer (_≡ commitInfo self settled pending)
   log-commit-info = one-answer
 
-  pub log-is-up-to-date : (i : Index) (t : Term) → OneAnswer (_≡ lookUpToDate self settled pending (i .0) (t .0))
+  pub log-is-up-to-date : (i : Index) (t : Term) → OneAnswer (_≡ isUpToDate self settled pending (i .0) (t .0))
   log-is-up-to-date i t = one-answer
 
-  pub log-find-conflict-by-term : (i : Index) (t : Term) → OneAnswer (_≡ byTerm self settled pending (i .0) (t .0))
+  pub log-find-conflict-by-term : (i : Index) (t : Term) → OneAnswer (_≡ findConflictByTerm self settled pending (i .0) (t .0))
   log-find-conflict-by-term i t = one-answer
 
   pub log-maybe-append : (idx : Index) (term : Term) (commit : Index) (run : List ℕ)
-      → OneOutcome (λ r pending′. (r ≡ appendAnswer self settled pending (idx .0) (term .0) (commit .0) run) × (pending′ ≡ appendStore r pending (idx .0) run))
+      → OneOutcome (λ r pending′. (r ≡ maybeAppend self settled pending (idx .0) (term .0) (commit .0) run) × (pending′ ≡ maybeAppendStore r pending (idx .0) run))
   log-maybe-append idx term commit run = one-outcome _
 
-  pub log-append : (run : List ℕ) → OneOutcome (λ r pending′. (r ≡ extendAnswer self settled pending run) × (pending′ ≡ extendStore r pending run))
+  pub log-append : (run : List ℕ) → OneOutcome (λ r pending′. (r ≡ appendRun self settled pending run) × (pending′ ≡ appendRunStore r pending run))
   log-append run = one-outcome _
 
   pub log-commit-to : (i : Index) → OneAnswer (_≡ commitTo self settled pending (i .0))
@@ -328,7 +328,7 @@ module _ (self : Log) (settled pending : List ℕ) where
   log-maybe-persist i t = one-answer
 
   pub log-stable-entries : (i : Index) (t : Term)
-      → OneOutcome (λ r settled′. (r ≡ settleAnswer self settled pending (i .0) (t .0)) × (settled′ ≡ settleStore r self settled pending))
+      → OneOutcome (λ r settled′. (r ≡ stableEntries self settled pending (i .0) (t .0)) × (settled′ ≡ stableEntriesStore r self settled pending))
   log-stable-entries i t = one-outcome _
 
   pub log-slice-bounds : (low high : Index) → OneAnswer (_≡ sliceBounds self settled pending (low .0) (high .0))
@@ -343,13 +343,13 @@ module _ (self : Log) (settled pending : List ℕ) where
   pub log-entries : (i : Index) → OneAnswer (_≡ partOf (entriesBounds self settled pending (i .0)) self settled pending)
   log-entries i = one-answer
 
-  pub log-has-next-entries-since : (s : Index) → OneAnswer (_≡ hasNextSince self settled pending (s .0))
+  pub log-has-next-entries-since : (s : Index) → OneAnswer (_≡ hasNextEntriesSince self settled pending (s .0))
   log-has-next-entries-since s = one-answer
 
-  pub log-next-entries-bounds-since : (s : Index) → OneAnswer (_≡ nextBounds self settled pending (s .0))
+  pub log-next-entries-bounds-since : (s : Index) → OneAnswer (_≡ nextEntriesBoundsSince self settled pending (s .0))
   log-next-entries-bounds-since s = one-answer
 
-  pub log-next-entries-since : (s : Index) → OneAnswer (_≡ partOf (nextBounds self settled pending (s .0)) self settled pending)
+  pub log-next-entries-since : (s : Index) → OneAnswer (_≡ partOf (nextEntriesBoundsSince self settled pending (s .0)) self settled pending)
   log-next-entries-since s = one-answer
 
 -- ---- leader: the leader's commit step (raft.rs, maybe_commit)

@@ -43,7 +43,7 @@ use Rattle.inflights.proofs.Stays.{never-broken}
 use Rattle.raft_log.specs.State.{Good}
 use Rattle.raft_log.specs.Run.{checkRun}
 use Rattle.raft_log.specs.Append.{withCommitted}
-use Rattle.raft_log.specs.Setup.{setupOk, setupAnswer}
+use Rattle.raft_log.specs.Setup.{setupOk, newLog}
 use Rattle.raft_log.specs.declared.Bounds.the-variants as bounds
 use Rattle.raft_log.specs.declared.Changed.the-variants as changed
 use Rattle.raft_log.proofs.States.{ok-good}
@@ -461,7 +461,7 @@ pub unsound-bounds : NamesHeld (bounds.Refused 0) logA settledA pendingA → ⊥
 unsound-bounds never = never refl
 
 -- A call that took all in leaves 0, which tells that it refused nothing; 0 beside a refusal would not tell it.
-pub tells : Tells changed.Refused (setupAnswer 0 0 3 settledA) (old ∷ []) (newLogLeaves 0 0 3 settledA old)
+pub tells : Tells changed.Refused (newLog 0 0 3 settledA) (old ∷ []) (newLogLeaves 0 0 3 settledA old)
 tells = log-new-tells 0 0 3 settledA old
 
 pub tells-not : Tells changed.Refused (changed.Refused 1) (old ∷ []) (leaves 0 (old ∷ [])) → ⊥

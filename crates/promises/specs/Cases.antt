@@ -13,8 +13,8 @@ use Rattle.raft_log.specs.declared.ByTerm.the-variants as byterm
 use Rattle.raft_log.specs.declared.Appended.{Appended}
 use Rattle.raft_log.specs.declared.Appended.the-variants.{Done, Refused}
 use Rattle.two_ends.specs.Sanity.{log-with}
-use Rattle.raft_log.specs.Append.{appendAnswer, appendStore}
-use Rattle.raft_log.specs.Look.{lookTerm, byTerm}
+use Rattle.raft_log.specs.Append.{maybeAppend, maybeAppendStore}
+use Rattle.raft_log.specs.Look.{lookTerm, findConflictByTerm}
 use Rattle.raft_log.specs.Setup.{fresh}
 use mathlib.Core.Bool.{false}
 use lib.ListN.{replicate}
@@ -60,8 +60,8 @@ pendingA = 2 ∷ 4 ∷ 3 ∷ 5 ∷ 0 ∷ 0 ∷ 0 ∷ 0 ∷ []
 
 -- `maybe_append(idx, term, commit, run)` on A gives this answer, and pending then has these words.
 pub record Appends (idx term commit : ℕ) (run : List ℕ) (answer : Appended) (words : List ℕ) : Type 0 where
-  pub answers : appendAnswer logA settledA pendingA idx term commit run ≡ answer
-  pub stores : appendStore answer pendingA idx run ≡ words
+  pub answers : maybeAppend logA settledA pendingA idx term commit run ≡ answer
+  pub stores : maybeAppendStore answer pendingA idx run ≡ words
 
 -- The records (4,2),(5,4),(6,4), of which A holds the first and not the second.
 abbrev pub message : List ℕ
@@ -149,11 +149,11 @@ pub record DocumentCases : Type 0 where
   -- "idx 9, term 0, empty, commit 2: refusal 4."
   pub beyond-last : Appends 9 0 2 [] (Refused outsideLog) pendingA
   -- "find_conflict_by_term: (5,2) gives (4,2); (5,1) gives (2,1); (5,0) gives (0,0); (6,9) gives 6, none. With start (10,4): (10,3) gives (9,0)."
-  pub by-term-5-2 : byTerm logA settledA pendingA 5 2 ≡ found 4 2
-  pub by-term-5-1 : byTerm logA settledA pendingA 5 1 ≡ found 2 1
-  pub by-term-5-0 : byTerm logA settledA pendingA 5 0 ≡ found 0 0
-  pub by-term-6-9 : byTerm logA settledA pendingA 6 9 ≡ byterm.Beyond (indexOf 6)
-  pub by-term-10-3 : byTerm (fresh 10 4 10) [] [] 10 3 ≡ found 9 0
+  pub by-term-5-2 : findConflictByTerm logA settledA pendingA 5 2 ≡ found 4 2
+  pub by-term-5-1 : findConflictByTerm logA settledA pendingA 5 1 ≡ found 2 1
+  pub by-term-5-0 : findConflictByTerm logA settledA pendingA 5 0 ≡ found 0 0
+  pub by-term-6-9 : findConflictByTerm logA settledA pendingA 6 9 ≡ byterm.Beyond (indexOf 6)
+  pub by-term-10-3 : findConflictByTerm (fresh 10 4 10) [] [] 10 3 ≡ found 9 0
   -- "acknowledgements 2,2,2,4,5 give 2; 9,7,7,3 give 7; one 5 and two missing give 0"
   pub five-voters : committedIndex (votersFrom 1 5) (acking (2 ∷ 2 ∷ 2 ∷ 4 ∷ 5 ∷ [])) ≡ upTo 2
   pub four-voters : committedIndex (votersFrom 1 4) (acking (9 ∷ 7 ∷ 7 ∷ 3 ∷ [])) ≡ upTo 7

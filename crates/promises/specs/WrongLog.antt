@@ -24,13 +24,13 @@ use Rattle.raft_log.specs.declared.Bounds.the-variants as bounds
 use Rattle.raft_log.specs.Words.{runCount, firstFrom}
 use Rattle.raft_log.specs.State.{broken}
 use Rattle.raft_log.specs.Run.{misnumbered, zeroTermIn}
-use Rattle.raft_log.specs.Append.{differs, withCommitted, cutIf, afterMessage, outside, mismatched, cuts, overfull, accepted, appendAnswer, appendStore}
-use Rattle.raft_log.specs.Extend.{extendAnswer, extendStore}
+use Rattle.raft_log.specs.Append.{differs, withCommitted, cutIf, afterMessage, outside, mismatched, cuts, overfull, accepted, maybeAppend, maybeAppendStore}
+use Rattle.raft_log.specs.Extend.{appendRun, appendRunStore}
 use Rattle.raft_log.specs.Commit.{withApplied, withPersisted, commitTo, appliedTo, maybeCommit, maybePersist}
-use Rattle.raft_log.specs.Settle.{settleAnswer, settleStore}
-use Rattle.raft_log.specs.Look.{lookTerm, lookFirst, lookLast, lookLastTerm, lookCommit, lookUpToDate, byTerm}
-use Rattle.raft_log.specs.Slice.{sliceBounds, entriesBounds, hasNextSince, nextBounds, partOf}
-use Rattle.raft_log.specs.Setup.{fresh, setupAnswer}
+use Rattle.raft_log.specs.Settle.{stableEntries, stableEntriesStore}
+use Rattle.raft_log.specs.Look.{lookTerm, firstIndex, lastIndex, lastTerm, commitInfo, isUpToDate, findConflictByTerm}
+use Rattle.raft_log.specs.Slice.{sliceBounds, entriesBounds, hasNextEntriesSince, nextEntriesBoundsSince, partOf}
+use Rattle.raft_log.specs.Setup.{fresh, newLog}
 use Rattle.quorum.specs.Joint.{oneSet}
 use Rattle.quorum.specs.Voters.{setOf}
 use Rattle.quorum.specs.declared.Committed.the-variants as question
@@ -51,14 +51,14 @@ on10 call = call (fresh 10 4 12) (4 ∷ 11 ∷ 5 ∷ 12 ∷ []) []
 
 -- The pending store after a message to A.
 abbrev pub storeBy : ℕ → ℕ → ℕ → List ℕ → List ℕ
-storeBy idx term commit run = appendStore (onA appendAnswer idx term commit run) pendingA idx run
+storeBy idx term commit run = maybeAppendStore (onA maybeAppend idx term commit run) pendingA idx run
 
 -- A's settled store with room for three more records, old words in the last of them; and this store after `stable_entries(5, 3)`.
 abbrev pub roomyA : List ℕ
 roomyA = settledA ++ 0 ∷ 0 ∷ 0 ∷ 0 ∷ 8 ∷ 9 ∷ []
 
 abbrev pub settledBy5 : List ℕ
-settledBy5 = settleStore (settleAnswer logA roomyA pendingA 5 3) logA roomyA pendingA
+settledBy5 = stableEntriesStore (stableEntries logA roomyA pendingA 5 3) logA roomyA pendingA
 
 -- The words of A that an answer of bounds names.
 abbrev pub wordsOfA : Bounds → List ℕ
@@ -71,45 +71,45 @@ voterTwice = oneSet (setOf (1 ∷ 1 ∷ []))
 -- THE TABLE, in the order of docs/PROMISES.md.
 pub record WrongLog : Type 0 where
   -- `new`: a log over a settled record of term 0, the second of three.
-  pub new-over-term-0 : setupAnswer 0 0 3 (1 ∷ 1 ∷ 0 ∷ 2 ∷ 2 ∷ 3 ∷ []) ≢ changed.Now (fresh 0 0 3)
+  pub new-over-term-0 : newLog 0 0 3 (1 ∷ 1 ∷ 0 ∷ 2 ∷ 2 ∷ 3 ∷ []) ≢ changed.Now (fresh 0 0 3)
   -- `new` over A's settled records: what is settled counts as committed.
-  pub new-commits-settled : setupAnswer 0 0 3 settledA ≢ changed.Now (withCommitted (fresh 0 0 3) 3)
+  pub new-commits-settled : newLog 0 0 3 settledA ≢ changed.Now (withCommitted (fresh 0 0 3) 3)
   -- `term`, start (10,4): the start's term at 9, below the start.
   pub term-below-start : on10 lookTerm 9 ≢ looked.At (termOf 4)
   -- `term` of A with one pending record: the term at 5, which was cut and whose words still stand in the store.
   pub term-beyond-last : lookTerm (log-with 4 1 2 3) settledA pendingA 5 ≢ looked.At (termOf 3)
   -- `first_index` of A: the start, 0.
-  pub first-index-start : onA lookFirst ≢ placed.At (indexOf 0)
+  pub first-index-start : onA firstIndex ≢ placed.At (indexOf 0)
   -- `first_index`, start (10,4): 1, as if every log began there.
-  pub first-index-one : on10 lookFirst ≢ placed.At (indexOf 1)
+  pub first-index-one : on10 firstIndex ≢ placed.At (indexOf 1)
   -- `last_index` of A: offset, 4.
-  pub last-index-offset : onA lookLast ≢ placed.At (indexOf 4)
+  pub last-index-offset : onA lastIndex ≢ placed.At (indexOf 4)
   -- `last_index` of A: 6, the place for the next record.
-  pub last-index-next : onA lookLast ≢ placed.At (indexOf 6)
+  pub last-index-next : onA lastIndex ≢ placed.At (indexOf 6)
   -- `last_term` of A: 2, the last settled record's.
-  pub last-term-settled : onA lookLastTerm ≢ looked.At (termOf 2)
+  pub last-term-settled : onA lastTerm ≢ looked.At (termOf 2)
   -- `last_term` of a log without records, start (10,4): 0.
-  pub last-term-no-records : lookLastTerm (fresh 10 4 10) [] [] ≢ looked.At (termOf 0)
+  pub last-term-no-records : lastTerm (fresh 10 4 10) [] [] ≢ looked.At (termOf 0)
   -- `commit_info` of A: committed with the last record's term.
-  pub commit-info-last-term : onA lookCommit ≢ info.At (indexOf 2) (termOf 3)
+  pub commit-info-last-term : onA commitInfo ≢ info.At (indexOf 2) (termOf 3)
   -- `commit_info` of A: applied and its term.
-  pub commit-info-applied : onA lookCommit ≢ info.At (indexOf 1) (termOf 1)
+  pub commit-info-applied : onA commitInfo ≢ info.At (indexOf 1) (termOf 1)
   -- `is_up_to_date(4, 3)` of A: yes for a shorter log of the same last term.
-  pub is-up-to-date-shorter : onA lookUpToDate 4 3 ≢ told.Is true
+  pub is-up-to-date-shorter : onA isUpToDate 4 3 ≢ told.Is true
   -- `is_up_to_date(5, 3)` of A: no for one that is as long.
-  pub is-up-to-date-equal : onA lookUpToDate 5 3 ≢ told.Is false
+  pub is-up-to-date-equal : onA isUpToDate 5 3 ≢ told.Is false
   -- `find_conflict_by_term(12, 3)`, start (10,4), where no record has a term so low: the first index, as the crate's comment says.
-  pub find-conflict-by-term-first : on10 byTerm 12 3 ≢ found 11 4
+  pub find-conflict-by-term-first : on10 findConflictByTerm 12 3 ≢ found 11 4
   -- `find_conflict_by_term(6, 9)` of A: a term beyond the last.
-  pub find-conflict-by-term-beyond : onA byTerm 6 9 ≢ found 6 0
+  pub find-conflict-by-term-beyond : onA findConflictByTerm 6 9 ≢ found 6 0
   -- `find_conflict_by_term(5, 0)` of A: none, since a term of 0 is taken as absent.
-  pub find-conflict-by-term-absent : onA byTerm 5 0 ≢ byterm.Beyond (indexOf 5)
+  pub find-conflict-by-term-absent : onA findConflictByTerm 5 0 ≢ byterm.Beyond (indexOf 5)
   -- `maybe_append`, idx 5, term 3, empty, commit 9: refusal 5.
-  pub maybe-append-always-5 : onA appendAnswer 5 3 9 [] ≢ appended.Refused mismatch
+  pub maybe-append-always-5 : onA maybeAppend 5 3 9 [] ≢ appended.Refused mismatch
   -- The same: committed 9, past idx + count.
-  pub maybe-append-commits-9 : onA appendAnswer 5 3 9 [] ≢ taken 0 5 (log-with 4 2 9 3)
+  pub maybe-append-commits-9 : onA maybeAppend 5 3 9 [] ≢ taken 0 5 (log-with 4 2 9 3)
   -- `maybe_append`, idx 3, term 2, a message whose second record differs, commit 4: (0, 6), and the log has no record more;
-  pub maybe-append-says-yes : onA appendAnswer 3 2 4 message ≢ taken 0 6 (log-with 4 2 4 3)
+  pub maybe-append-says-yes : onA maybeAppend 3 2 4 message ≢ taken 0 6 (log-with 4 2 4 3)
   -- nothing is stored;
   pub maybe-append-stores-nothing : storeBy 3 2 4 message ≢ pendingA
   -- the first record, which is held, is stored again with the message's body.
@@ -117,15 +117,15 @@ pub record WrongLog : Type 0 where
   -- `maybe_append`, idx 2, term 1, record (3,5), commit 2: the words of the records that are cut, and not written over, become 0.
   pub maybe-append-clears-cut : storeBy 2 1 2 (3 ∷ 5 ∷ 6 ∷ []) ≢ 5 ∷ 6 ∷ 0 ∷ 0 ∷ 0 ∷ 0 ∷ 0 ∷ 0 ∷ []
   -- `maybe_append`, idx 2, term 1, record (3,2), which is held, commit 0: it is taken for a conflict and 4 and 5 are cut.
-  pub maybe-append-cuts-held : onA appendAnswer 2 1 0 (3 ∷ 2 ∷ 6 ∷ []) ≢ taken 3 3 (log-with 3 1 2 2)
+  pub maybe-append-cuts-held : onA maybeAppend 2 1 0 (3 ∷ 2 ∷ 6 ∷ []) ≢ taken 3 3 (log-with 3 1 2 2)
   -- `maybe_append`, idx 9, term 0, empty, commit 2: (0, 9), as the crate answers.
-  pub maybe-append-beyond-last : onA appendAnswer 9 0 2 [] ≢ taken 0 9 logA
+  pub maybe-append-beyond-last : onA maybeAppend 9 0 2 [] ≢ taken 0 9 logA
   -- `append` of (7,3) to A: taken, with old words for record 6.
-  pub append-fills-gap : onA extendAnswer (7 ∷ 3 ∷ 9 ∷ []) ≢ extended.Last (indexOf 7) (log-with 4 4 2 3)
+  pub append-fills-gap : onA appendRun (7 ∷ 3 ∷ 9 ∷ []) ≢ extended.Last (indexOf 7) (log-with 4 4 2 3)
   -- `append` of (3,3) to A: record 3, which is persisted, is cut and persisted lowered.
-  pub append-lowers-persisted : onA extendAnswer (3 ∷ 3 ∷ 9 ∷ []) ≢ extended.Last (indexOf 3) (log-with 3 1 2 2)
+  pub append-lowers-persisted : onA appendRun (3 ∷ 3 ∷ 9 ∷ []) ≢ extended.Last (indexOf 3) (log-with 3 1 2 2)
   -- `append` of (5,4) to A: its words stand behind the pending records, not from its own index on.
-  pub append-stores-behind : extendStore (onA extendAnswer (5 ∷ 4 ∷ 9 ∷ [])) pendingA (5 ∷ 4 ∷ 9 ∷ []) ≢ 2 ∷ 4 ∷ 3 ∷ 5 ∷ 4 ∷ 9 ∷ 0 ∷ 0 ∷ []
+  pub append-stores-behind : appendRunStore (onA appendRun (5 ∷ 4 ∷ 9 ∷ [])) pendingA (5 ∷ 4 ∷ 9 ∷ []) ≢ 2 ∷ 4 ∷ 3 ∷ 5 ∷ 4 ∷ 9 ∷ 0 ∷ 0 ∷ []
   -- `commit_to(1)` of A: committed lowered.
   pub commit-to-lowers : onA commitTo 1 ≢ changed.Now (log-with 4 2 1 3)
   -- `commit_to(6)` of A: committed beyond the last.
@@ -143,7 +143,7 @@ pub record WrongLog : Type 0 where
   -- `maybe_persist(3, 1)` of A with 2 persisted: yes for a settled record of another term.
   pub maybe-persist-another-term : maybePersist (log-with 4 2 2 2) settledA pendingA 3 1 ≢ decided.Yes logA
   -- `stable_entries(5, 3)` of A with room: what is settled counts as persisted;
-  pub stable-entries-persists : settleAnswer logA roomyA pendingA 5 3 ≢ changed.Now (log-with 6 0 2 5)
+  pub stable-entries-persists : stableEntries logA roomyA pendingA 5 3 ≢ changed.Now (log-with 6 0 2 5)
   -- nothing is copied;
   pub stable-entries-copies-nothing : settledBy5 ≢ roomyA
   -- the spare words of pending are copied too, over the old words behind.
@@ -165,17 +165,17 @@ pub record WrongLog : Type 0 where
   -- `entries(4)` of A: without the last record.
   pub entries-without-last : wordsOfA (onA entriesBounds 4) ≢ 2 ∷ 4 ∷ []
   -- `has_next_entries_since(3)` of A with all committed: yes for record 4, which is not persisted.
-  pub has-next-entries-since-not-persisted : hasNextSince allCommittedA settledA pendingA 3 ≢ told.Is true
+  pub has-next-entries-since-not-persisted : hasNextEntriesSince allCommittedA settledA pendingA 3 ≢ told.Is true
   -- `has_next_entries_since(u64::MAX)` of A: yes, as s + 1 wraps to 0.
-  pub has-next-entries-since-wraps : onA hasNextSince wordMax ≢ told.Is true
+  pub has-next-entries-since-wraps : onA hasNextEntriesSince wordMax ≢ told.Is true
   -- `next_entries_bounds_since(1)` of A: from 1 itself on.
-  pub next-entries-bounds-since-itself : onA nextBounds 1 ≢ bounds.Settled (indexOf 1) (indexOf 3)
+  pub next-entries-bounds-since-itself : onA nextEntriesBoundsSince 1 ≢ bounds.Settled (indexOf 1) (indexOf 3)
   -- The same: up to record 3, which is not committed.
-  pub next-entries-bounds-since-uncommitted : onA nextBounds 1 ≢ bounds.Settled (indexOf 2) (indexOf 4)
+  pub next-entries-bounds-since-uncommitted : onA nextEntriesBoundsSince 1 ≢ bounds.Settled (indexOf 2) (indexOf 4)
   -- `next_entries_since(1)` of A: the words of record 1 too.
-  pub next-entries-since-itself : wordsOfA (onA nextBounds 1) ≢ 1 ∷ 1 ∷ 1 ∷ 2 ∷ []
+  pub next-entries-since-itself : wordsOfA (onA nextEntriesBoundsSince 1) ≢ 1 ∷ 1 ∷ 1 ∷ 2 ∷ []
   -- The same: the words of record 3 too.
-  pub next-entries-since-uncommitted : wordsOfA (onA nextBounds 1) ≢ 1 ∷ 2 ∷ 2 ∷ 3 ∷ []
+  pub next-entries-since-uncommitted : wordsOfA (onA nextEntriesBoundsSince 1) ≢ 1 ∷ 2 ∷ 2 ∷ 3 ∷ []
   -- The leader's `maybe_commit`, term 3, two of three voters at 4: yes for record 4, which is of an earlier term.
   pub leader-maybe-commit-earlier-term : onA leaderCommit 3 threeVoters (acking (4 ∷ 4 ∷ [])) ≢ decided.Yes (log-with 4 2 4 3)
   -- The same of a log that is committed beyond its last, with a voter that stands twice: 12 before 1.
@@ -193,11 +193,11 @@ Engine = Log → List ℕ → List ℕ → ℕ → ℕ → ℕ → List ℕ → 
 
 -- An answer, and the pending store that it leaves.
 abbrev pub stored : List ℕ → ℕ → List ℕ → Appended → Appended × List ℕ
-stored pending idx run said = (said, appendStore said pending idx run)
+stored pending idx run said = (said, maybeAppendStore said pending idx run)
 
 -- THE PROMISE.
 abbrev pub promised : Engine
-promised l settled pending idx term commit run = stored pending idx run (appendAnswer l settled pending idx term commit run)
+promised l settled pending idx term commit run = stored pending idx run (maybeAppend l settled pending idx term commit run)
 
 module _ (l : Log) (settled pending : List ℕ) (idx term commit : ℕ) (run : List ℕ) where
   -- Its table with three parts open: whether the previous record is another, how many of the run's records are held, and the log after the message.

@@ -17,7 +17,7 @@ use Rattle.raft_log.specs.declared.run.Checked.the-variants.{Records, Re
 use Rattle.raft_log.specs.Words.{room, runCount, firstFrom, putRun}
 use Rattle.raft_log.specs.State.{Good, broken, termAt, lastOf}
 use Rattle.raft_log.specs.Run.{misnumbered, zeroTermIn, checkRun}
-use Rattle.raft_log.specs.Append.{withPending, withCommitted, afterMessage, outside, mismatched, cuts, overfull, differs, conflictOf, accepted, decide, matchRun, appendAnswer, appendStore}
+use Rattle.raft_log.specs.Append.{withPending, withCommitted, afterMessage, outside, mismatched, cuts, overfull, differs, conflictOf, accepted, decide, matchRun, maybeAppend, maybeAppendStore}
 use Rattle.raft_log.proofs.States.{not-both, no-term}
 use Rattle.raft_log.proofs.Searching.{same-not, other-not}
 use Rattle.raft_log.proofs.Runs.{run-passed, run-refused, numbered-rises}
@@ -90,13 +90,13 @@ module _ (l : Log) (settled pending : List ℕ) (idx term : ℕ) (g : Good l set
 -- ---- the whole table
 
 module _ (l : Log) (settled pending : List ℕ) (idx term commit : ℕ) (run : List ℕ) where
-  pub answer-broken : broken l settled pending ≡ true → appendAnswer l settled pending idx term commit run ≡ Refused brokenState
-  unfolding appendAnswer
+  pub answer-broken : broken l settled pending ≡ true → maybeAppend l settled pending idx term commit run ≡ Refused brokenState
+  unfolding maybeAppend
   answer-broken h = simp h
 
   pub answer-run : {r : ℕ} → broken l settled pending ≡ false → checkRun run idx ≡ BadRun r
-      → appendAnswer l settled pending idx term commit run ≡ Refused r
-  unfolding appendAnswer
+      → maybeAppend l settled pending idx term commit run ≡ Refused r
+  unfolding maybeAppend
   answer-run h e =
       ⊎-elim
       (λ m. simp (h, m .0, m .1))
@@ -104,8 +104,8 @@ module _ (l : Log) (settled pending : List ℕ) (idx term commit : ℕ) (run : L
       (run-refused run idx e)
 
   pub answer-on : {n : ℕ} → broken l settled pending ≡ false → checkRun run idx ≡ Records n
-      → appendAnswer l settled pending idx term commit run ≡ matchRun l settled pending idx term commit run n
-  unfolding appendAnswer
+      → maybeAppend l settled pending idx term commit run ≡ matchRun l settled pending idx term commit run n
+  unfolding maybeAppend
   answer-on h e =
       let p = run-passed run idx e in
       simp (h, p .numbers, p .terms, p .count)
@@ -140,8 +140,8 @@ module _ (l : Log) (settled pending : List ℕ) (idx term commit : ℕ) (run : L
     pub room : overfull after pending ≡ false
 
   -- so it is where a message is taken, and the answer is the table's last line
-  pub done-passed : {c m : Index} {a : Log} → appendAnswer l settled pending idx term commit run ≡ Done c m a → Passed × (accepted idx n alike after ≡ Done c m a)
-  unfolding appendAnswer matchRun decide
+  pub done-passed : {c m : Index} {a : Log} → maybeAppend l settled pending idx term commit run ≡ Done c m a → Passed × (accepted idx n alike after ≡ Done c m a)
+  unfolding maybeAppend matchRun decide
   done-passed h =
       let t1 = past (broken l settled pending) no-done h in
       let t2 = past (misnumbered run idx) no-done (t1 .1) in
@@ -184,7 +184,7 @@ accepted-cut l pending idx commit n k {c} {m} {after} limit room-left answer z =
     (below-or-not k n)
 
 pub answer-cut : (l : Log) (settled pending : List ℕ) (idx term commit : ℕ) (run : List ℕ) {c m : Index} {after : Log}
-    → appendAnswer l settled pending idx term commit run ≡ Done c m after → (c .0 ≡ 0 → ⊥)
+    → maybeAppend l settled pending idx term commit run ≡ Done c m after → (c .0 ≡ 0 → ⊥)
     → Cut (room pending) idx (runCount run) c m after
 answer-cut l settled pending idx term commit run h z =
     let p = done-passed l settled pending idx term commit run h in
@@ -193,15 +193,15 @@ answer-cut l settled pending idx term commit run h z =
 -- ---- the store
 
 module _ (pending : List ℕ) (idx : ℕ) (run : List ℕ) where
-  pub store-refused : {a : Appended} {r : ℕ} → a ≡ Refused r → pending ≡ appendStore a pending idx run
-  unfolding appendStore
-  store-refused e = sym (ap (λ (a : Appended). appendStore a pending idx run) e)
+  pub store-refused : {a : Appended} {r : ℕ} → a ≡ Refused r → pending ≡ maybeAppendStore a pending idx run
+  unfolding maybeAppendStore
+  store-refused e = sym (ap (λ (a : Appended). maybeAppendStore a pending idx run) e)
 
-  pub store-same : (c m : Index) (l : Log) → c .0 ≡ 0 → pending ≡ appendStore (Done c m l) pending idx run
-  unfolding appendStore
+  pub store-same : (c m : Index) (l : Log) → c .0 ≡ 0 → pending ≡ maybeAppendStore (Done c m l) pending idx run
+  unfolding maybeAppendStore
   store-same c m l e = simp (eq-eqb _ _ e)
 
   pub store-cut : (c m : Index) (l : Log) → (c .0 ≡ 0 → ⊥)
-      → putRun pending (c .0 - l .offset .0) run (c .0 - idx - 1) (m .0 + 1 - c .0) ≡ appendStore (Done c m l) pending idx run
-  unfolding appendStore
+      → putRun pending (c .0 - l .offset .0) run (c .0 - idx - 1) (m .0 + 1 - c .0) ≡ maybeAppendStore (Done c m l) pending idx run
+  unfolding maybeAppendStore
   store-cut c m l e = simp (ne-eqb _ _ e)

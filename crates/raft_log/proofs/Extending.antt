@@ -18,7 +18,7 @@ use Rattle.raft_log.specs.Words.{room, runCount, putRun, firstFrom}
 use Rattle.raft_log.specs.State.{lastOf, broken}
 use Rattle.raft_log.specs.Run.{termsSet, zeroTermIn, checkRun}
 use Rattle.raft_log.specs.Append.{withPending, overfull}
-use Rattle.raft_log.specs.Extend.{firstOf, extended, badRun, startsCommitted, leavesGap, startsPersisted, extendFrom, extendAnswer, extendStore}
+use Rattle.raft_log.specs.Extend.{firstOf, extended, badRun, startsCommitted, leavesGap, startsPersisted, extendFrom, appendRun, appendRunStore}
 use Rattle.raft_log.proofs.Runs.{run-passed, run-refused}
 use Rattle.units.proofs.Cond.{past}
 use Rattle.units.proofs.Never.{never}
@@ -61,23 +61,23 @@ no-zero-term run e =
     simp z
 
 module _ (l : Log) (settled pending run : List ℕ) where
-  pub extend-broken : broken l settled pending ≡ true → extendAnswer l settled pending run ≡ Refused brokenState
-  unfolding extendAnswer
+  pub extend-broken : broken l settled pending ≡ true → appendRun l settled pending run ≡ Refused brokenState
+  unfolding appendRun
   extend-broken h = simp h
 
   module _ (ok : broken l settled pending ≡ false) where
-    pub extend-empty : length run ≡ 0 → extendAnswer l settled pending run ≡ Last (indexOf (lastOf l)) l
-    unfolding extendAnswer
+    pub extend-empty : length run ≡ 0 → appendRun l settled pending run ≡ Last (indexOf (lastOf l)) l
+    unfolding appendRun
     extend-empty e = simp (ok, eq-eqb _ _ e, no-zero-term run e)
 
     module _ (some : length run ≡ 0 → ⊥) where
-      pub extend-zero : firstOf run ≡ 0 → extendAnswer l settled pending run ≡ Refused misnumberedRun
-      unfolding extendAnswer
+      pub extend-zero : firstOf run ≡ 0 → appendRun l settled pending run ≡ Refused misnumberedRun
+      unfolding appendRun
       extend-zero h = simp (ok, ne-eqb _ _ some, eq-eqb _ _ h)
 
       module _ (starts : firstOf run ≡ 0 → ⊥) where
-        pub extend-run : {r : ℕ} → checkRun run (firstOf run - 1) ≡ BadRun r → extendAnswer l settled pending run ≡ Refused r
-        unfolding extendAnswer
+        pub extend-run : {r : ℕ} → checkRun run (firstOf run - 1) ≡ BadRun r → appendRun l settled pending run ≡ Refused r
+        unfolding appendRun
         extend-run e =
             ⊎-elim
             (λ m. simp (ok, ne-eqb _ _ some, ne-eqb _ _ starts, m .0, m .1))
@@ -85,8 +85,8 @@ module _ (l : Log) (settled pending run : List ℕ) where
             (run-refused run (firstOf run - 1) e)
 
         pub extend-on : {n : ℕ} → checkRun run (firstOf run - 1) ≡ Records n
-            → extendAnswer l settled pending run ≡ extendFrom l pending (firstOf run) n
-        unfolding extendAnswer
+            → appendRun l settled pending run ≡ extendFrom l pending (firstOf run) n
+        unfolding appendRun
         extend-on e =
             let p = run-passed run (firstOf run - 1) e in
             simp (ok, ne-eqb _ _ some, ne-eqb _ _ starts, p .numbers, p .terms, p .count)
@@ -121,8 +121,8 @@ module _ (l : Log) (settled pending run : List ℕ) where
     pub none : length run ≡ 0 → l ≡ after
     pub some : (length run ≡ 0 → ⊥) → InPlace l pending (firstOf run) (runCount run) after
 
-  pub last-allowed : {m : Index} {after : Log} → extendAnswer l settled pending run ≡ Last m after → Allowed after
-  unfolding extendAnswer
+  pub last-allowed : {m : Index} {after : Log} → appendRun l settled pending run ≡ Last m after → Allowed after
+  unfolding appendRun
   last-allowed {m} {after} h =
       let whole = past (broken l settled pending) no-last h in
       let numbers = past (badRun run) no-last (whole .1) in
@@ -143,7 +143,7 @@ pub record Extends (places first n : ℕ) (after : Log) : Type 0 where
   pub kept : after .offset .0 ≤ first
   pub fits : first + n - after .offset .0 ≤ places
 
-pub extend-cut : (l : Log) (settled pending run : List ℕ) {m : Index} {after : Log} → extendAnswer l settled pending run ≡ Last m after
+pub extend-cut : (l : Log) (settled pending run : List ℕ) {m : Index} {after : Log} → appendRun l settled pending run ≡ Last m after
     → (length run ≡ 0 → ⊥) → Extends (room pending) (firstOf run) (runCount run) after
 extend-cut l settled pending run h some =
     let p = last-allowed l settled pending run h .some some in
@@ -154,15 +154,15 @@ extend-cut l settled pending run h some =
 -- ---- the store
 
 module _ (pending run : List ℕ) where
-  pub store-refused : {a : Extended} {r : ℕ} → a ≡ Refused r → pending ≡ extendStore a pending run
-  unfolding extendStore
-  store-refused e = sym (ap (λ (a : Extended). extendStore a pending run) e)
+  pub store-refused : {a : Extended} {r : ℕ} → a ≡ Refused r → pending ≡ appendRunStore a pending run
+  unfolding appendRunStore
+  store-refused e = sym (ap (λ (a : Extended). appendRunStore a pending run) e)
 
-  pub store-empty : (m : Index) (l : Log) → length run ≡ 0 → pending ≡ extendStore (Last m l) pending run
-  unfolding extendStore
+  pub store-empty : (m : Index) (l : Log) → length run ≡ 0 → pending ≡ appendRunStore (Last m l) pending run
+  unfolding appendRunStore
   store-empty m l e = simp (eq-eqb _ _ e)
 
   pub store-put : (m : Index) (l : Log) → (length run ≡ 0 → ⊥)
-      → putRun pending (firstOf run - l .offset .0) run 0 (runCount run) ≡ extendStore (Last m l) pending run
-  unfolding extendStore
+      → putRun pending (firstOf run - l .offset .0) run 0 (runCount run) ≡ appendRunStore (Last m l) pending run
+  unfolding appendRunStore
   store-put m l e = simp (ne-eqb _ _ e)

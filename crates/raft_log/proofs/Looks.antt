@@ -14,7 +14,7 @@ use Rattle.raft_log.specs.declared.Placed.the-variants as placed
 use Rattle.raft_log.specs.declared.Told.the-variants as told
 use Rattle.raft_log.specs.declared.Info.the-variants as info
 use Rattle.raft_log.specs.State.{lastOf, broken, termAt}
-use Rattle.raft_log.specs.Look.{lookTerm, lookFirst, lookLast, lookLastTerm, lookUpToDate, lookCommit}
+use Rattle.raft_log.specs.Look.{lookTerm, firstIndex, lastIndex, lastTerm, isUpToDate, commitInfo}
 
 -- where the state rules are broken
 module _ (l : Log) (settled pending : List ℕ) (h : broken l settled pending ≡ true) where
@@ -22,24 +22,24 @@ module _ (l : Log) (settled pending : List ℕ) (h : broken l settled pending �
   unfolding lookTerm
   term-refused i = simp h
 
-  pub first-refused : lookFirst l settled pending ≡ placed.Refused brokenState
-  unfolding lookFirst
+  pub first-refused : firstIndex l settled pending ≡ placed.Refused brokenState
+  unfolding firstIndex
   first-refused = simp h
 
-  pub last-refused : lookLast l settled pending ≡ placed.Refused brokenState
-  unfolding lookLast
+  pub last-refused : lastIndex l settled pending ≡ placed.Refused brokenState
+  unfolding lastIndex
   last-refused = simp h
 
-  pub last-term-refused : lookLastTerm l settled pending ≡ looked.Refused brokenState
-  unfolding lookLastTerm
+  pub last-term-refused : lastTerm l settled pending ≡ looked.Refused brokenState
+  unfolding lastTerm
   last-term-refused = simp h
 
-  pub up-to-date-refused : (i t : ℕ) → lookUpToDate l settled pending i t ≡ told.Refused brokenState
-  unfolding lookUpToDate
+  pub up-to-date-refused : (i t : ℕ) → isUpToDate l settled pending i t ≡ told.Refused brokenState
+  unfolding isUpToDate
   up-to-date-refused i t = simp h
 
-  pub commit-info-refused : lookCommit l settled pending ≡ info.Refused brokenState
-  unfolding lookCommit
+  pub commit-info-refused : commitInfo l settled pending ≡ info.Refused brokenState
+  unfolding commitInfo
   commit-info-refused = simp h
 
 -- where they hold; the last index and the terms are named as they were found
@@ -48,35 +48,35 @@ module _ (l : Log) (settled pending : List ℕ) (h : broken l settled pending �
   unfolding lookTerm
   term-is i e = simp (h, e)
 
-  pub first-is : lookFirst l settled pending ≡ placed.At (indexOf (l .start .0 + 1))
-  unfolding lookFirst
+  pub first-is : firstIndex l settled pending ≡ placed.At (indexOf (l .start .0 + 1))
+  unfolding firstIndex
   first-is = simp h
 
-  pub last-is : {i : ℕ} → i ≡ lastOf l → lookLast l settled pending ≡ placed.At (indexOf i)
-  unfolding lookLast
+  pub last-is : {i : ℕ} → i ≡ lastOf l → lastIndex l settled pending ≡ placed.At (indexOf i)
+  unfolding lastIndex
   last-is e = simp (h, e)
 
-  pub commit-info-is : {t : ℕ} → t ≡ termAt l settled pending (l .committed .0) → lookCommit l settled pending ≡ info.At (l .committed) (termOf t)
-  unfolding lookCommit
+  pub commit-info-is : {t : ℕ} → t ≡ termAt l settled pending (l .committed .0) → commitInfo l settled pending ≡ info.At (l .committed) (termOf t)
+  unfolding commitInfo
   commit-info-is e = simp (h, e)
 
   module _ {last term : ℕ} (e : last ≡ lastOf l) (f : term ≡ termAt l settled pending last) where
     last-term : termAt l settled pending (lastOf l) ≡ term
     last-term = sym (f ∙ ap (termAt l settled pending) e)
 
-    pub last-term-is : lookLastTerm l settled pending ≡ looked.At (termOf term)
-    unfolding lookLastTerm
+    pub last-term-is : lastTerm l settled pending ≡ looked.At (termOf term)
+    unfolding lastTerm
     last-term-is = simp (h, last-term)
 
     module _ (i t : ℕ) where
-      pub later-term : term < t → lookUpToDate l settled pending i t ≡ told.Is true
-      unfolding lookUpToDate
+      pub later-term : term < t → isUpToDate l settled pending i t ≡ told.Is true
+      unfolding isUpToDate
       later-term k = simp (h, last-term, lt-ltb _ _ k)
 
-      pub earlier-term : t ≤ term → (t ≡ term → ⊥) → lookUpToDate l settled pending i t ≡ told.Is false
-      unfolding lookUpToDate
+      pub earlier-term : t ≤ term → (t ≡ term → ⊥) → isUpToDate l settled pending i t ≡ told.Is false
+      unfolding isUpToDate
       earlier-term k d = simp (h, last-term, le-ltb term t k, ne-eqb t term d)
 
-      pub same-term : t ≡ term → lookUpToDate l settled pending i t ≡ told.Is (leb last i)
-      unfolding lookUpToDate
+      pub same-term : t ≡ term → isUpToDate l settled pending i t ≡ told.Is (leb last i)
+      unfolding isUpToDate
       same-term k = simp (h, last-term, le-ltb term t (omega arith), eq-eqb t term k, e)

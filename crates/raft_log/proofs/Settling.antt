@@ -12,7 +12,7 @@ use Rattle.raft_log.specs.declared.Changed.the-variants.{Now, Refused}
 use Rattle.raft_log.specs.Words.{room, recordWords}
 use Rattle.raft_log.specs.State.{Good, broken, termAt, lastOf}
 use Rattle.raft_log.specs.Append.{withPending}
-use Rattle.raft_log.specs.Settle.{isLast, settledOverfull, settledLog, settleAnswer, settleStore}
+use Rattle.raft_log.specs.Settle.{isLast, settledOverfull, settledLog, stableEntries, stableEntriesStore}
 use Rattle.raft_log.proofs.States.{split, refuted, whole-good}
 use Rattle.units.proofs.Cond.{past}
 use Rattle.units.proofs.Never.{never}
@@ -33,22 +33,22 @@ module _ (l : Log) (settled pending : List ℕ) (i t : ℕ) where
       let b = split _ _ (a .0) in
       record { some = eqb-false _ _ (not-true _ (b .0)); there = eqb-true _ _ (b .1); same = eqb-true _ _ (a .1) }
 
-  pub settle-broken : broken l settled pending ≡ true → settleAnswer l settled pending i t ≡ Refused brokenState
-  unfolding settleAnswer
+  pub settle-broken : broken l settled pending ≡ true → stableEntries l settled pending i t ≡ Refused brokenState
+  unfolding stableEntries
   settle-broken h = simp h
 
   module _ (h : broken l settled pending ≡ false) where
-    pub settle-full : room settled < lastOf l - l .start .0 → settleAnswer l settled pending i t ≡ Refused noRoom
-    unfolding settleAnswer
+    pub settle-full : room settled < lastOf l - l .start .0 → stableEntries l settled pending i t ≡ Refused noRoom
+    unfolding stableEntries
     settle-full r = simp (h, lt-ltb _ _ r)
 
-    pub settle-other : lastOf l - l .start .0 ≤ room settled → (Last → ⊥) → settleAnswer l settled pending i t ≡ Refused notPending
-    unfolding settleAnswer
+    pub settle-other : lastOf l - l .start .0 ≤ room settled → (Last → ⊥) → stableEntries l settled pending i t ≡ Refused notPending
+    unfolding stableEntries
     settle-other r f = simp (h, le-ltb _ _ r, refuted (isLast l settled pending i t) (λ e. f (test-last e)))
 
     pub settle-done : (last : ℕ) → last ≡ lastOf l → lastOf l - l .start .0 ≤ room settled → Last
-        → settleAnswer l settled pending i t ≡ Now (withPending l (last + 1) 0 (l .persisted .0))
-    unfolding settleAnswer
+        → stableEntries l settled pending i t ≡ Now (withPending l (last + 1) 0 (l .persisted .0))
+    unfolding stableEntries
     settle-done last e r g = simp (e, h, le-ltb _ _ r, last-test g)
 
 pub no-now : {r : ℕ} {a : Log} → Refused r ≡ Now a → ⊥
@@ -56,24 +56,24 @@ no-now h = never cc
 
 module _ (l : Log) (settled pending : List ℕ) where
   -- where the answer is a log no test held, and it is the log with all records settled
-  pub settle-room : (i t : ℕ) {a : Log} → settleAnswer l settled pending i t ≡ Now a
+  pub settle-room : (i t : ℕ) {a : Log} → stableEntries l settled pending i t ≡ Now a
       → Good l settled pending × (lastOf l - l .start .0 ≤ room settled) × (settledLog l ≡ a)
-  unfolding settleAnswer
+  unfolding stableEntries
   settle-room i t h =
       let s = past (broken l settled pending) no-now h in
       let r = past (settledOverfull l settled) no-now (s .1) in
       let e = past (not (isLast l settled pending i t)) no-now (r .1) in
       (whole-good l settled pending (s .0), ltb-false _ _ (r .0), cc (e .1))
 
-  pub settle-log : (i t : ℕ) {a : Log} → settleAnswer l settled pending i t ≡ Now a → settledLog l ≡ a
+  pub settle-log : (i t : ℕ) {a : Log} → stableEntries l settled pending i t ≡ Now a → settledLog l ≡ a
   settle-log i t h = settle-room i t h .2
 
-  pub settled-kept : {x : Changed} {r : ℕ} → x ≡ Refused r → settled ≡ settleStore x l settled pending
-  unfolding settleStore
-  settled-kept e = sym (ap (λ (x : Changed). settleStore x l settled pending) e)
+  pub settled-kept : {x : Changed} {r : ℕ} → x ≡ Refused r → settled ≡ stableEntriesStore x l settled pending
+  unfolding stableEntriesStore
+  settled-kept e = sym (ap (λ (x : Changed). stableEntriesStore x l settled pending) e)
 
   pub settled-pasted : {x : Changed} {a : Log} → x ≡ Now a
       → paste settled ((l .offset .0 - 1 - l .start .0) * recordWords) pending (l .count * recordWords)
-      ≡ settleStore x l settled pending
-  unfolding settleStore
-  settled-pasted e = sym (ap (λ (x : Changed). settleStore x l settled pending) e)
+      ≡ stableEntriesStore x l settled pending
+  unfolding stableEntriesStore
+  settled-pasted e = sym (ap (λ (x : Changed). stableEntriesStore x l settled pending) e)

@@ -11,7 +11,7 @@ use Rattle.units.specs.Refusals.{brokenState, zeroTerm}
 use Rattle.raft_log.specs.declared.Changed.the-variants.{Now, Refused}
 use Rattle.raft_log.specs.Words.{room, firstFrom}
 use Rattle.raft_log.specs.State.{agree}
-use Rattle.raft_log.specs.Setup.{fresh, setupOk, zeroTermAt, setupAnswer}
+use Rattle.raft_log.specs.Setup.{fresh, setupOk, zeroTermAt, newLog}
 use Rattle.raft_log.proofs.States.{split, refuted}
 use Rattle.raft_log.proofs.Searching.{found}
 
@@ -45,20 +45,20 @@ module _ (start startterm last : ℕ) (settled : List ℕ) where
   unfolding setupOk
   room-left a b d = simp (a, le-leb _ _ b, le-leb _ _ d)
 
-  pub setup-broken : setupOk start startterm last settled ≡ false → setupAnswer start startterm last settled ≡ Refused brokenState
-  unfolding setupAnswer
+  pub setup-broken : setupOk start startterm last settled ≡ false → newLog start startterm last settled ≡ Refused brokenState
+  unfolding newLog
   setup-broken h = simp h
 
   module _ (first : ℕ) (e : first ≡ firstFrom (zeroTermAt settled) 0 (last - start)) where
     pub setup-zero : setupOk start startterm last settled ≡ true → first < last - start
-        → setupAnswer start startterm last settled ≡ Refused zeroTerm
-    unfolding setupAnswer
+        → newLog start startterm last settled ≡ Refused zeroTerm
+    unfolding newLog
     setup-zero h z =
         simp (h, ne-eqb (firstFrom (zeroTermAt settled) 0 (last - start)) (last - start) (omega arith))
 
     pub setup-done : setupOk start startterm last settled ≡ true → last - start ≤ first
-        → setupAnswer start startterm last settled ≡ Now (fresh start startterm last)
-    unfolding setupAnswer
+        → newLog start startterm last settled ≡ Now (fresh start startterm last)
+    unfolding newLog
     setup-done h z =
         let within = found (zeroTermAt settled) 0 (last - start) .within in
         simp (h, eq-eqb (firstFrom (zeroTermAt settled) 0 (last - start)) (last - start) (omega arith))

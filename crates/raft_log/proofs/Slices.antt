@@ -13,7 +13,7 @@ use Rattle.raft_log.specs.declared.Log.{Log}
 use Rattle.raft_log.specs.declared.Bounds.the-variants as bounds
 use Rattle.raft_log.specs.Words.{recordWords, room}
 use Rattle.raft_log.specs.State.{lastOf, broken}
-use Rattle.raft_log.specs.Slice.{inStore, sliceIn, nextLow, nextHigh, hasNext, entriesBounds, nextBounds, storePart}
+use Rattle.raft_log.specs.Slice.{inStore, sliceIn, nextLow, nextHigh, hasNext, entriesBounds, nextEntriesBoundsSince, storePart}
 use Rattle.raft_log.proofs.States.{split, refuted}
 
 module _ (l : Log) (low high : ℕ) where
@@ -74,13 +74,13 @@ module _ (l : Log) (settled pending : List ℕ) (i : ℕ) (sound : broken l sett
   unfolding entriesBounds
   entries-some e h = simp (sound, le-ltb (lastOf l) i (omega arith), e)
 
-  pub next-none : hasNext l i ≡ false → nextBounds l settled pending i ≡ bounds.Empty
-  unfolding nextBounds
+  pub next-none : hasNext l i ≡ false → nextEntriesBoundsSince l settled pending i ≡ bounds.Empty
+  unfolding nextEntriesBoundsSince
   next-none h = simp (sound, h)
 
   pub next-some : {low end : ℕ} → hasNext l i ≡ true → low ≡ nextLow l i → end ≡ min (l .committed .0) (l .persisted .0)
-      → nextBounds l settled pending i ≡ inStore l low (end + 1)
-  unfolding nextBounds
+      → nextEntriesBoundsSince l settled pending i ≡ inStore l low (end + 1)
+  unfolding nextEntriesBoundsSince
   next-some h e f = simp (sound, h, e, f)
 
 module _ (store : List ℕ) (first low high : ℕ) where

@@ -1,4 +1,4 @@
--- `maybe_append` of document 01. A reader must know: `appendAnswer` is the answer with the whole new log, its refusals one ordered table of named tests; `appendStore` is the pending store after it, word by word.
+-- `maybe_append` of document 01. A reader must know: `maybeAppend` is the answer with the whole new log, its refusals one ordered table of named tests; `maybeAppendStore` is the pending store after it, word by word.
 use Prim.Native.Nat.{ℕ, _+_, _-_, min, max}
 use mathlib.Core.Bool.{Bool, not, _&&_, _||_, cond}
 use mathlib.Core.List.{List}
@@ -97,16 +97,16 @@ matchRun l settled pending idx term commit run n =
     (decide l pending idx commit n (firstFrom (differs l settled pending idx run) 0 n)))
 
 -- THE PROMISE of `maybe_append`: the whole table, in document 01's order.
-unfoldable pub appendAnswer : Log → List ℕ → List ℕ → ℕ → ℕ → ℕ → List ℕ → Appended
-appendAnswer l settled pending idx term commit run =
+unfoldable pub maybeAppend : Log → List ℕ → List ℕ → ℕ → ℕ → ℕ → List ℕ → Appended
+maybeAppend l settled pending idx term commit run =
     cond (broken l settled pending) (Refused brokenState)
     (cond (misnumbered run idx) (Refused misnumberedRun)
     (cond (zeroTermIn run) (Refused zeroTerm)
     (matchRun l settled pending idx term commit run (runCount run))))
 
 -- The pending store after an answer: the run's records from the conflict on, each at its place. Where nothing is cut, nothing is written. 01: "A call writes only the records it adds or copies; every other word stays."
-unfoldable pub appendStore : Appended → List ℕ → ℕ → List ℕ → List ℕ
-appendStore (Refused number) pending idx run = pending
-appendStore (Done conflict last l) pending idx run =
+unfoldable pub maybeAppendStore : Appended → List ℕ → ℕ → List ℕ → List ℕ
+maybeAppendStore (Refused number) pending idx run = pending
+maybeAppendStore (Done conflict last l) pending idx run =
     cond (eqb (conflict .0) 0) pending
     (putRun pending (conflict .0 - l .offset .0) run (conflict .0 - idx - 1) (last .0 + 1 - conflict .0))

@@ -1,5 +1,5 @@
 -- `append` of document 01: "the cut above from its own first index, no term compared; answers the new last. An empty run answers last. `persisted` is untouched."
--- A reader must know: `extendAnswer` is the answer with the whole new log, its refusals one ordered table; `extendStore` is the pending store after it.
+-- A reader must know: `appendRun` is the answer with the whole new log, its refusals one ordered table; `appendRunStore` is the pending store after it.
 use Prim.Native.Nat.{ℕ, _+_, _-_}
 use mathlib.Core.Bool.{Bool, not, _&&_, _||_, cond}
 use mathlib.Core.List.{List}
@@ -49,8 +49,8 @@ extendFrom l pending first n =
     (Last (indexOf (first + n - 1)) (extended l first n)))))
 
 -- THE PROMISE of `append`: "answers the new last. An empty run answers last."
-unfoldable pub extendAnswer : Log → List ℕ → List ℕ → List ℕ → Extended
-extendAnswer l settled pending run =
+unfoldable pub appendRun : Log → List ℕ → List ℕ → List ℕ → Extended
+appendRun l settled pending run =
     cond (broken l settled pending) (Refused brokenState)
     (cond (badRun run) (Refused misnumberedRun)
     (cond (zeroTermIn run) (Refused zeroTerm)
@@ -58,6 +58,6 @@ extendAnswer l settled pending run =
     (extendFrom l pending (firstOf run) (runCount run)))))
 
 -- The pending store after an answer: the whole run from its first index on. 01: "A call writes only the records it adds or copies; every other word stays."
-unfoldable pub extendStore : Extended → List ℕ → List ℕ → List ℕ
-extendStore (Refused number) pending run = pending
-extendStore (Last last l) pending run = cond (eqb (length run) 0) pending (putRun pending (firstOf run - l .offset .0) run 0 (runCount run))
+unfoldable pub appendRunStore : Extended → List ℕ → List ℕ → List ℕ
+appendRunStore (Refused number) pending run = pending
+appendRunStore (Last last l) pending run = cond (eqb (length run) 0) pending (putRun pending (firstOf run - l .offset .0) run 0 (runCount run))

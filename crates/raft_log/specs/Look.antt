@@ -23,16 +23,16 @@ unfoldable pub lookTerm : Log → List ℕ → List ℕ → ℕ → Looked
 lookTerm l settled pending i = cond (broken l settled pending) (looked.Refused brokenState) (looked.At (termOf (termAt l settled pending i)))
 
 -- THE PROMISE of `first_index`: the index after the start, "before its first record".
-unfoldable pub lookFirst : Log → List ℕ → List ℕ → Placed
-lookFirst l settled pending = cond (broken l settled pending) (placed.Refused brokenState) (placed.At (indexOf (l .start .0 + 1)))
+unfoldable pub firstIndex : Log → List ℕ → List ℕ → Placed
+firstIndex l settled pending = cond (broken l settled pending) (placed.Refused brokenState) (placed.At (indexOf (l .start .0 + 1)))
 
 -- THE PROMISE of `last_index`: "Last is offset plus the pending count, minus 1."
-unfoldable pub lookLast : Log → List ℕ → List ℕ → Placed
-lookLast l settled pending = cond (broken l settled pending) (placed.Refused brokenState) (placed.At (indexOf (lastOf l)))
+unfoldable pub lastIndex : Log → List ℕ → List ℕ → Placed
+lastIndex l settled pending = cond (broken l settled pending) (placed.Refused brokenState) (placed.At (indexOf (lastOf l)))
 
 -- THE PROMISE of `last_term`: the term there.
-unfoldable pub lookLastTerm : Log → List ℕ → List ℕ → Looked
-lookLastTerm l settled pending = cond (broken l settled pending) (looked.Refused brokenState) (looked.At (termOf (termAt l settled pending (lastOf l))))
+unfoldable pub lastTerm : Log → List ℕ → List ℕ → Looked
+lastTerm l settled pending = cond (broken l settled pending) (looked.Refused brokenState) (looked.At (termOf (termAt l settled pending (lastOf l))))
 
 -- The term at j is at most t.
 abbrev pub atMost : Log → List ℕ → List ℕ → ℕ → ℕ → Bool
@@ -53,17 +53,17 @@ byTermIn l settled pending i t =
     cond (ltb (lastOf l) i) (byterm.Beyond (indexOf i)) (foundAt l settled pending (lastDown (atMost l settled pending t) i))
 
 -- THE PROMISE of `find_conflict_by_term(i, t)`.
-unfoldable pub byTerm : Log → List ℕ → List ℕ → ℕ → ℕ → ByTerm
-byTerm l settled pending i t = cond (broken l settled pending) (byterm.Refused brokenState) (byTermIn l settled pending i t)
+unfoldable pub findConflictByTerm : Log → List ℕ → List ℕ → ℕ → ℕ → ByTerm
+findConflictByTerm l settled pending i t = cond (broken l settled pending) (byterm.Refused brokenState) (byTermIn l settled pending i t)
 
 -- "t > last term, or equal and i >= last"
 abbrev pub upToDate : Log → List ℕ → List ℕ → ℕ → ℕ → Bool
 upToDate l settled pending i t = ltb (termAt l settled pending (lastOf l)) t || (eqb t (termAt l settled pending (lastOf l)) && leb (lastOf l) i)
 
 -- THE PROMISE of `is_up_to_date(i, t)`.
-unfoldable pub lookUpToDate : Log → List ℕ → List ℕ → ℕ → ℕ → Told
-lookUpToDate l settled pending i t = cond (broken l settled pending) (told.Refused brokenState) (told.Is (upToDate l settled pending i t))
+unfoldable pub isUpToDate : Log → List ℕ → List ℕ → ℕ → ℕ → Told
+isUpToDate l settled pending i t = cond (broken l settled pending) (told.Refused brokenState) (told.Is (upToDate l settled pending i t))
 
 -- THE PROMISE of `commit_info`: "committed and its term".
-unfoldable pub lookCommit : Log → List ℕ → List ℕ → Info
-lookCommit l settled pending = cond (broken l settled pending) (info.Refused brokenState) (info.At (indexOf (l .committed .0)) (termOf (termAt l settled pending (l .committed .0))))
+unfoldable pub commitInfo : Log → List ℕ → List ℕ → Info
+commitInfo l settled pending = cond (broken l settled pending) (info.Refused brokenState) (info.At (indexOf (l .committed .0)) (termOf (termAt l settled pending (l .committed .0))))

@@ -1,5 +1,5 @@
 -- `stable_entries` of document 01: "pending's last record must be (i, t); pending is copied to settled .. and offset becomes i + 1".
--- A reader must know: `settleAnswer` is the answer with the whole new log; `settleStore` is the settled store after it.
+-- A reader must know: `stableEntries` is the answer with the whole new log; `stableEntriesStore` is the settled store after it.
 use Prim.Native.Nat.{ℕ, _+_, _-_, _*_}
 use mathlib.Core.Bool.{Bool, not, _&&_, cond}
 use mathlib.Core.List.{List}
@@ -26,13 +26,13 @@ abbrev pub isLast : Log → List ℕ → List ℕ → ℕ → ℕ → Bool
 isLast l settled pending i t = not (eqb (l .count) 0) && eqb i (lastOf l) && eqb (termAt l settled pending i) t
 
 -- THE PROMISE of `stable_entries`.
-unfoldable pub settleAnswer : Log → List ℕ → List ℕ → ℕ → ℕ → Changed
-settleAnswer l settled pending i t =
+unfoldable pub stableEntries : Log → List ℕ → List ℕ → ℕ → ℕ → Changed
+stableEntries l settled pending i t =
     cond (broken l settled pending) (changed.Refused brokenState)
     (cond (settledOverfull l settled) (changed.Refused noRoom)
     (cond (not (isLast l settled pending i t)) (changed.Refused notPending) (changed.Now (settledLog l))))
 
 -- The settled store after an answer: "pending is copied to settled", behind its own records; every other word as it was.
-unfoldable pub settleStore : Changed → Log → List ℕ → List ℕ → List ℕ
-settleStore (changed.Refused number) l settled pending = settled
-settleStore (changed.Now after) l settled pending = paste settled ((l .offset .0 - 1 - l .start .0) * recordWords) pending (l .count * recordWords)
+unfoldable pub stableEntriesStore : Changed → Log → List ℕ → List ℕ → List ℕ
+stableEntriesStore (changed.Refused number) l settled pending = settled
+stableEntriesStore (changed.Now after) l settled pending = paste settled ((l .offset .0 - 1 - l .start .0) * recordWords) pending (l .count * recordWords)

@@ -40,7 +40,7 @@ abbrev pub settledZero : List ℕ → ℕ → Bool
 settledZero settled n = not (none (zeroTermAt settled) n)
 
 -- THE PROMISE of `new`: 1, then 3, "a zero term .. in settled at set-up", else the log above.
-unfoldable pub setupAnswer : ℕ → ℕ → ℕ → List ℕ → Changed
-setupAnswer start startterm last settled =
+unfoldable pub newLog : ℕ → ℕ → ℕ → List ℕ → Changed
+newLog start startterm last settled =
     cond (not (setupOk start startterm last settled)) (changed.Refused brokenState)
     (cond (settledZero settled (last - start)) (changed.Refused zeroTerm) (changed.Now (fresh start startterm last)))

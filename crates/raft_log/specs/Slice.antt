@@ -50,12 +50,12 @@ unfoldable pub hasNext : Log → ℕ → Bool
 hasNext l s = ltb s wordMax && ltb (nextLow l s) (nextHigh l)
 
 -- THE PROMISE of `has_next_entries_since(s)`.
-unfoldable pub hasNextSince : Log → List ℕ → List ℕ → ℕ → Told
-hasNextSince l settled pending s = cond (broken l settled pending) (told.Refused brokenState) (told.Is (hasNext l s))
+unfoldable pub hasNextEntriesSince : Log → List ℕ → List ℕ → ℕ → Told
+hasNextEntriesSince l settled pending s = cond (broken l settled pending) (told.Refused brokenState) (told.Is (hasNext l s))
 
 -- THE PROMISE of `next_entries_bounds_since(s)`: "gives that range as a slice, or nothing".
-unfoldable pub nextBounds : Log → List ℕ → List ℕ → ℕ → Bounds
-nextBounds l settled pending s =
+unfoldable pub nextEntriesBoundsSince : Log → List ℕ → List ℕ → ℕ → Bounds
+nextEntriesBoundsSince l settled pending s =
     cond (broken l settled pending) (bounds.Refused brokenState)
     (cond (hasNext l s) (inStore l (nextLow l s) (nextHigh l)) bounds.Empty)
 

@@ -26,8 +26,8 @@ ghost use Rattle.units.specs.Units.{wordMax, indexLimit};
 ghost use Rattle.raft_log.specs.Words.{room, runCount, firstFrom};
 ghost use Rattle.raft_log.specs.State.{Good, lastOf};
 ghost use Rattle.raft_log.specs.Run.{zeroAt};
-ghost use Rattle.raft_log.specs.Append.{differs, outside, matchRun, decide, appendAnswer};
-ghost use Rattle.raft_log.specs.Extend.{extendFrom, extendAnswer};
+ghost use Rattle.raft_log.specs.Append.{differs, outside, matchRun, decide, maybeAppend};
+ghost use Rattle.raft_log.specs.Extend.{extendFrom, appendRun};
 
 // The first differing record of a run that begins among the settled records: its first `gap` records have settled places, and the log has records for the first `held`.
 fn conflict_across(
@@ -152,7 +152,7 @@ fn matched(
 }
 
 // The answer of `maybe_append`.
-pub fn append_answer(
+pub fn maybe_append_answer(
     log: Log,
     settled: &[u64],
     pending: &[u64],
@@ -161,7 +161,7 @@ pub fn append_answer(
     commit: u64,
     run: &[u64],
 ) -> Appended
-    ensures { λ r. ⌜ r ≡ appendAnswer log (now (settled .entry)) (now (pending .entry)) idx term commit (now (run .entry)) ⌝ }
+    ensures { λ r. ⌜ r ≡ maybeAppend log (now (settled .entry)) (now (pending .entry)) idx term commit (now (run .entry)) ⌝ }
 {
     if !state_ok(log, settled, pending) {
         return Appended::Refused(BROKEN_STATE);
@@ -201,8 +201,8 @@ fn extended(log: Log, pending: &[u64], first: u64, n: u64) -> Extended
 }
 
 // The answer of `append`.
-pub fn extend_answer(log: Log, settled: &[u64], pending: &[u64], run: &[u64]) -> Extended
-    ensures { λ r. ⌜ r ≡ extendAnswer log (now (settled .entry)) (now (pending .entry)) (now (run .entry)) ⌝ }
+pub fn append_run_answer(log: Log, settled: &[u64], pending: &[u64], run: &[u64]) -> Extended
+    ensures { λ r. ⌜ r ≡ appendRun log (now (settled .entry)) (now (pending .entry)) (now (run .entry)) ⌝ }
 {
     if !state_ok(log, settled, pending) {
         return Extended::Refused(BROKEN_STATE);

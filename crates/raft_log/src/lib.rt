@@ -6,8 +6,8 @@ mod run;
 mod state;
 mod words;
 
-use append::append_answer;
-use append::extend_answer;
+use append::maybe_append_answer;
+use append::append_run_answer;
 use state::last_of;
 use state::state_ok;
 use state::term_at;
@@ -23,13 +23,13 @@ use words::store_term;
 ghost use mathlib.Core.Path.{_≡_};
 ghost use Prim.Native.Nat.{_+_, _-_, _≤_, _<_};
 ghost use Rattle.raft_log.specs.Words.{room, firstFrom};
-ghost use Rattle.raft_log.specs.Append.{appendAnswer, appendStore};
-ghost use Rattle.raft_log.specs.Extend.{extendAnswer, extendStore};
+ghost use Rattle.raft_log.specs.Append.{maybeAppend, maybeAppendStore};
+ghost use Rattle.raft_log.specs.Extend.{appendRun, appendRunStore};
 ghost use Rattle.raft_log.specs.Commit.{commitTo, appliedTo, maybeCommit, maybePersist};
-ghost use Rattle.raft_log.specs.Settle.{settleAnswer, settleStore};
-ghost use Rattle.raft_log.specs.Look.{lookTerm, lookFirst, lookLast, lookLastTerm, byTerm, lookUpToDate, lookCommit};
-ghost use Rattle.raft_log.specs.Slice.{sliceBounds, entriesBounds, hasNextSince, nextBounds, storePart, partOf};
-ghost use Rattle.raft_log.specs.Setup.{zeroTermAt, setupOk, setupAnswer};
+ghost use Rattle.raft_log.specs.Settle.{stableEntries, stableEntriesStore};
+ghost use Rattle.raft_log.specs.Look.{lookTerm, firstIndex, lastIndex, lastTerm, findConflictByTerm, isUpToDate, commitInfo};
+ghost use Rattle.raft_log.specs.Slice.{sliceBounds, entriesBounds, hasNextEntriesSince, nextEntriesBoundsSince, storePart, partOf};
+ghost use Rattle.raft_log.specs.Setup.{zeroTermAt, setupOk, newLog};
 
 // The state beside the stores: settled holds the records start + 1 to offset - 1, pending those from offset on.
 pub struct Log {
@@ -117,7 +117,7 @@ impl Log {
         settled: &[u64],
         pending: &[u64],
     ) -> Changed
-        ensures { λ r. ⌜ r ≡ setupAnswer (start .0) («start_term» .0) (last .0) (now (settled .entry)) ⌝ }
+        ensures { λ r. ⌜ r ≡ newLog (start .0) («start_term» .0) (last .0) (now (settled .entry)) ⌝ }
     {
         if !setup_ok(start.0, start_term.0, last.0, settled) {
             return Changed::Refused(BROKEN_STATE);
@@ -150,7 +150,7 @@ impl Log {
     }
 
     pub fn first_index(self, settled: &[u64], pending: &[u64]) -> Placed
-        ensures { λ r. ⌜ r ≡ lookFirst self (now (settled .entry)) (now (pending .entry)) ⌝ }
+        ensures { λ r. ⌜ r ≡ firstIndex self (now (settled .entry)) (now (pending .entry)) ⌝ }
     {
         if !state_ok(self, settled, pending) {
             return Placed::Refused(BROKEN_STATE);
@@ -160,7 +160,7 @@ impl Log {
     }
 
     pub fn last_index(self, settled: &[u64], pending: &[u64]) -> Placed
-        ensures { λ r. ⌜ r ≡ lookLast self (now (settled .entry)) (now (pending .entry)) ⌝ }
+        ensures { λ r. ⌜ r ≡ lastIndex self (now (settled .entry)) (now (pending .entry)) ⌝ }
     {
         if !state_ok(self, settled, pending) {
             return Placed::Refused(BROKEN_STATE);
@@ -170,7 +170,7 @@ impl Log {
     }
 
     pub fn last_term(self, settled: &[u64], pending: &[u64]) -> Looked
-        ensures { λ r. ⌜ r ≡ lookLastTerm self (now (settled .entry)) (now (pending .entry)) ⌝ }
+        ensures { λ r. ⌜ r ≡ lastTerm self (now (settled .entry)) (now (pending .entry)) ⌝ }
     {
         if !state_ok(self, settled, pending) {
             return Looked::Refused(BROKEN_STATE);
@@ -182,7 +182,7 @@ impl Log {
 
     // The index and the term of the last committed record.
     pub fn commit_info(self, settled: &[u64], pending: &[u64]) -> Info
-        ensures { λ r. ⌜ r ≡ lookCommit self (now (settled .entry)) (now (pending .entry)) ⌝ }
+        ensures { λ r. ⌜ r ≡ commitInfo self (now (settled .entry)) (now (pending .entry)) ⌝ }
     {
         if !state_ok(self, settled, pending) {
             return Info::Refused(BROKEN_STATE);
@@ -194,7 +194,7 @@ impl Log {
 
     // Whether a log that ends with (i, t) is at least as up to date as this one.
     pub fn is_up_to_date(self, settled: &[u64], pending: &[u64], i: Index, t: Term) -> Told
-        ensures { λ r. ⌜ r ≡ lookUpToDate self (now (settled .entry)) (now (pending .entry)) (i .0) (t .0) ⌝ }
+        ensures { λ r. ⌜ r ≡ isUpToDate self (now (settled .entry)) (now (pending .entry)) (i .0) (t .0) ⌝ }
     {
         if !state_ok(self, settled, pending) {
             return Told::Refused(BROKEN_STATE);
@@ -218,7 +218,7 @@ impl Log {
         i: Index,
         t: Term,
     ) -> ByTerm
-        ensures { λ r. ⌜ r ≡ byTerm self (now (settled .entry)) (now (pending .entry)) (i .0) (t .0) ⌝ }
+        ensures { λ r. ⌜ r ≡ findConflictByTerm self (now (settled .entry)) (now (pending .entry)) (i .0) (t .0) ⌝ }
     {
         if !state_ok(self, settled, pending) {
             return ByTerm::Refused(BROKEN_STATE);
@@ -236,10 +236,10 @@ impl Log {
         commit: Index,
         run: &[u64],
     ) -> Appended
-        ensures answer { λ r. ⌜ r ≡ appendAnswer self (now (settled .entry)) (now (pending .entry)) (idx .0) (term .0) (commit .0) (now (run .entry)) ⌝ }
-        ensures store { λ r. ⌜ now (pending .exit) ≡ appendStore r (now (pending .entry)) (idx .0) (now (run .entry)) ⌝ }
+        ensures answer { λ r. ⌜ r ≡ maybeAppend self (now (settled .entry)) (now (pending .entry)) (idx .0) (term .0) (commit .0) (now (run .entry)) ⌝ }
+        ensures store { λ r. ⌜ now (pending .exit) ≡ maybeAppendStore r (now (pending .entry)) (idx .0) (now (run .entry)) ⌝ }
     {
-        let answer = append_answer(self, settled, pending, idx.0, term.0, commit.0, run);
+        let answer = maybe_append_answer(self, settled, pending, idx.0, term.0, commit.0, run);
         let Appended::Done {
             conflict,
             last,
@@ -260,10 +260,10 @@ impl Log {
 
     // The leader's own records, cut in from the run's first index.
     pub fn append(self, settled: &[u64], pending: &mut [u64], run: &[u64]) -> Extended
-        ensures answer { λ r. ⌜ r ≡ extendAnswer self (now (settled .entry)) (now (pending .entry)) (now (run .entry)) ⌝ }
-        ensures store { λ r. ⌜ now (pending .exit) ≡ extendStore r (now (pending .entry)) (now (run .entry)) ⌝ }
+        ensures answer { λ r. ⌜ r ≡ appendRun self (now (settled .entry)) (now (pending .entry)) (now (run .entry)) ⌝ }
+        ensures store { λ r. ⌜ now (pending .exit) ≡ appendRunStore r (now (pending .entry)) (now (run .entry)) ⌝ }
     {
-        let answer = extend_answer(self, settled, pending, run);
+        let answer = append_run_answer(self, settled, pending, run);
         let Extended::Last(_, log) = answer else {
             return answer;
         };
@@ -363,10 +363,10 @@ impl Log {
 
     // Pending records that were written go over to the settled ones.
     pub fn stable_entries(self, settled: &mut [u64], pending: &[u64], i: Index, t: Term) -> Changed
-        ensures answer { λ r. ⌜ r ≡ settleAnswer self (now (settled .entry)) (now (pending .entry)) (i .0) (t .0) ⌝ }
-        ensures store { λ r. ⌜ now (settled .exit) ≡ settleStore r self (now (settled .entry)) (now (pending .entry)) ⌝ }
+        ensures answer { λ r. ⌜ r ≡ stableEntries self (now (settled .entry)) (now (pending .entry)) (i .0) (t .0) ⌝ }
+        ensures store { λ r. ⌜ now (settled .exit) ≡ stableEntriesStore r self (now (settled .entry)) (now (pending .entry)) ⌝ }
     {
-        let answer = settle_answer(self, settled, pending, i.0, t.0);
+        let answer = stable_entries_answer(self, settled, pending, i.0, t.0);
         let Changed::Now(_) = answer else {
             return answer;
         };
@@ -423,7 +423,7 @@ impl Log {
 
     // Whether records after s are committed and persisted.
     pub fn has_next_entries_since(self, settled: &[u64], pending: &[u64], s: Index) -> Told
-        ensures { λ r. ⌜ r ≡ hasNextSince self (now (settled .entry)) (now (pending .entry)) (s .0) ⌝ }
+        ensures { λ r. ⌜ r ≡ hasNextEntriesSince self (now (settled .entry)) (now (pending .entry)) (s .0) ⌝ }
     {
         if !state_ok(self, settled, pending) {
             return Told::Refused(BROKEN_STATE);
@@ -433,7 +433,7 @@ impl Log {
 
     // Those records, as far as one store holds them.
     pub fn next_entries_bounds_since(self, settled: &[u64], pending: &[u64], s: Index) -> Bounds
-        ensures { λ r. ⌜ r ≡ nextBounds self (now (settled .entry)) (now (pending .entry)) (s .0) ⌝ }
+        ensures { λ r. ⌜ r ≡ nextEntriesBoundsSince self (now (settled .entry)) (now (pending .entry)) (s .0) ⌝ }
     {
         if !state_ok(self, settled, pending) {
             return Bounds::Refused(BROKEN_STATE);
@@ -452,7 +452,7 @@ impl Log {
         pending: &'a [u64],
         s: Index,
     ) -> &'a [u64]
-        ensures { λ r. ⌜ now r ≡ partOf (nextBounds self (now (settled .entry)) (now (pending .entry)) (s .0)) self (now (settled .entry)) (now (pending .entry)) ⌝ }
+        ensures { λ r. ⌜ now r ≡ partOf (nextEntriesBoundsSince self (now (settled .entry)) (now (pending .entry)) (s .0)) self (now (settled .entry)) (now (pending .entry)) ⌝ }
     {
         let bounds = self.next_entries_bounds_since(settled, pending, s);
         part(self, settled, pending, bounds)
@@ -513,8 +513,8 @@ fn first_zero(store: &[u64], n: u64) -> u64
 }
 
 // Refusals 1, 7 and 10 of `stable_entries`, or the log after it.
-fn settle_answer(log: Log, settled: &[u64], pending: &[u64], i: u64, t: u64) -> Changed
-    ensures { λ r. ⌜ r ≡ settleAnswer log (now (settled .entry)) (now (pending .entry)) i t ⌝ }
+fn stable_entries_answer(log: Log, settled: &[u64], pending: &[u64], i: u64, t: u64) -> Changed
+    ensures { λ r. ⌜ r ≡ stableEntries log (now (settled .entry)) (now (pending .entry)) i t ⌝ }
 {
     if !state_ok(log, settled, pending) {
         return Changed::Refused(BROKEN_STATE);

@@ -12,11 +12,11 @@ use Rattle.raft_log.specs.declared.Changed.the-variants as changed
 use Rattle.raft_log.specs.declared.Decided.{Decided}
 use Rattle.raft_log.specs.declared.Decided.the-variants as decided
 use Rattle.raft_log.specs.State.{Good}
-use Rattle.raft_log.specs.Append.{matchRun, appendAnswer, appendStore}
+use Rattle.raft_log.specs.Append.{matchRun, maybeAppend, maybeAppendStore}
 use Rattle.raft_log.specs.Commit.{commitTo, appliedTo, maybeCommit, maybePersist}
-use Rattle.raft_log.specs.Extend.{extendAnswer, extendStore}
-use Rattle.raft_log.specs.Settle.{settleAnswer, settleStore}
-use Rattle.raft_log.specs.Setup.{setupAnswer}
+use Rattle.raft_log.specs.Extend.{appendRun, appendRunStore}
+use Rattle.raft_log.specs.Settle.{stableEntries, stableEntriesStore}
+use Rattle.raft_log.specs.Setup.{newLog}
 use Rattle.log_laws.specs.Keep.{AfterChanged, AfterDecided, AfterExtended, AfterAppended, TermsSet}
 use Rattle.log_laws.proofs.Keep.{commit-to-keeps, applied-to-keeps, maybe-commit-keeps, maybe-persist-keeps, new-keeps, stable-entries-keeps, append-keeps, maybe-append-keeps}
 use Rattle.log_laws.proofs.Terms.{commit-to-terms, applied-to-terms, maybe-commit-terms, maybe-persist-terms, new-terms, stable-entries-terms, append-terms, maybe-append-terms}
@@ -37,18 +37,18 @@ module _ (P : Log → List ℕ → List ℕ → Type 0) (l : Log) (settled pendi
   decided-carries decided.No h = before
   decided-carries (decided.Refused n) h = before
 
-  pub settled-carries : (a : Changed) → AfterChanged P a (settleStore a l settled pending) pending → P (logChanged a l) (settleStore a l settled pending) pending
-  unfolding settleStore
+  pub settled-carries : (a : Changed) → AfterChanged P a (stableEntriesStore a l settled pending) pending → P (logChanged a l) (stableEntriesStore a l settled pending) pending
+  unfolding stableEntriesStore
   settled-carries (changed.Now after) h = h
   settled-carries (changed.Refused n) h = before
 
-  pub extended-carries : (run : List ℕ) (a : Extended) → AfterExtended P a settled (extendStore a pending run) → P (logExtended a l) settled (extendStore a pending run)
-  unfolding extendStore
+  pub extended-carries : (run : List ℕ) (a : Extended) → AfterExtended P a settled (appendRunStore a pending run) → P (logExtended a l) settled (appendRunStore a pending run)
+  unfolding appendRunStore
   extended-carries run (extended.Last last after) h = h
   extended-carries run (extended.Refused n) h = before
 
-  pub appended-carries : (idx : ℕ) (run : List ℕ) (a : Appended) → AfterAppended P a settled (appendStore a pending idx run) → P (logAppended a l) settled (appendStore a pending idx run)
-  unfolding appendStore
+  pub appended-carries : (idx : ℕ) (run : List ℕ) (a : Appended) → AfterAppended P a settled (maybeAppendStore a pending idx run) → P (logAppended a l) settled (maybeAppendStore a pending idx run)
+  unfolding maybeAppendStore
   appended-carries idx run (appended.Done c k after) h = h
   appended-carries idx run (appended.Refused n) h = before
 
@@ -61,15 +61,15 @@ module _ (f : Follower) (s : Sound f) where
   l = f .log
 
   pub received-sound : (m : Message) → Sound (engine f m .follower)
-  unfolding engine appendAnswer matchRun
+  unfolding engine maybeAppend matchRun
   received-sound m = (
     appended-carries Good l (f .settled) (f .pending) (s .0) (m .idx) (m .run) (answer-to f m) (maybe-append-keeps l (f .settled) (f .pending) (m .idx) (m .term) (m .commit) (m .run)),
     appended-carries TermsSet l (f .settled) (f .pending) (s .1) (m .idx) (m .run) (answer-to f m) (maybe-append-terms l (f .settled) (f .pending) (s .1) (m .idx) (m .term) (m .commit) (m .run)),
   )
 
-  pub settled-sound : (i t : ℕ) → Sound (settled-by f (settleAnswer l (f .settled) (f .pending) i t))
+  pub settled-sound : (i t : ℕ) → Sound (settled-by f (stableEntries l (f .settled) (f .pending) i t))
   settled-sound i t =
-      let a : Changed = settleAnswer l (f .settled) (f .pending) i t in
+      let a : Changed = stableEntries l (f .settled) (f .pending) i t in
       (settled-carries Good l (f .settled) (f .pending) (s .0) a (stable-entries-keeps l (f .settled) (f .pending) i t), settled-carries TermsSet l (f .settled) (f .pending) (s .1) a (stable-entries-terms l (f .settled) (f .pending) (s .1) i t))
 
   pub persisted-sound : (i t : ℕ) → Sound (with-log f (logDecided (maybePersist l (f .settled) (f .pending) i t) l))
@@ -92,9 +92,9 @@ module _ (f : Follower) (s : Sound f) where
       let a : Decided = maybeCommit l (f .settled) (f .pending) i t in
       (decided-carries Good l (f .settled) (f .pending) (s .0) a (maybe-commit-keeps l (f .settled) (f .pending) i t), decided-carries TermsSet l (f .settled) (f .pending) (s .1) a (maybe-commit-terms l (f .settled) (f .pending) (s .1) i t))
 
-  extended-sound : (run : List ℕ) → Sound (extended-by f run (extendAnswer l (f .settled) (f .pending) run))
+  extended-sound : (run : List ℕ) → Sound (extended-by f run (appendRun l (f .settled) (f .pending) run))
   extended-sound run =
-      let a : Extended = extendAnswer l (f .settled) (f .pending) run in
+      let a : Extended = appendRun l (f .settled) (f .pending) run in
       (extended-carries Good l (f .settled) (f .pending) (s .0) run a (append-keeps l (f .settled) (f .pending) run), extended-carries TermsSet l (f .settled) (f .pending) (s .1) run a (append-terms l (f .settled) (f .pending) (s .1) run))
 
   pub between-sound : (b : Between) → Sound (does f b)
@@ -105,7 +105,7 @@ module _ (f : Follower) (s : Sound f) where
   between-sound reads = s
 
 -- 01: "a log that set-up and these calls made" is sound: nothing of it need be assumed.
-fresh-sound : (start startterm last : ℕ) (settled pending : List ℕ) (l : Log) → setupAnswer start startterm last settled ≡ changed.Now l → Good l settled pending × TermsSet l settled pending
+fresh-sound : (start startterm last : ℕ) (settled pending : List ℕ) (l : Log) → newLog start startterm last settled ≡ changed.Now l → Good l settled pending × TermsSet l settled pending
 fresh-sound start startterm last settled pending l e = (
   subst (λ (a : Changed). AfterChanged Good a settled pending) e (new-keeps start startterm last settled pending),
   subst (λ (a : Changed). AfterChanged TermsSet a settled pending) e (new-terms start startterm last settled pending),

@@ -8,7 +8,7 @@ use Rattle.raft_log.specs.declared.Log.{Log}
 use Rattle.raft_log.specs.declared.Changed.{Changed}
 use Rattle.raft_log.specs.declared.Changed.the-variants as changed
 use Rattle.raft_log.specs.Commit.{appliedTo, maybePersist}
-use Rattle.raft_log.specs.Settle.{settleAnswer, settleStore}
+use Rattle.raft_log.specs.Settle.{stableEntries, stableEntriesStore}
 use Rattle.raft_log.proofs.Settling.{settle-log}
 use Rattle.log_laws.specs.View.{view-of}
 use Rattle.log_laws.specs.Keep.{AfterChanged, AfterDecided}
@@ -49,17 +49,17 @@ module _ (l : Log) (settled pending : List ℕ) where
   unfolding view-of
   applied-alike i = after-applied (Alike l settled pending) l settled pending i (refl, refl) (refl, refl)
 
-  settled-alike : (i t : ℕ) → AfterChanged (Alike l settled pending) (settleAnswer l settled pending i t) (settleStore (settleAnswer l settled pending i t) l settled pending) pending
-  settled-alike i t = by-answer (settleAnswer l settled pending i t) refl
+  settled-alike : (i t : ℕ) → AfterChanged (Alike l settled pending) (stableEntries l settled pending i t) (stableEntriesStore (stableEntries l settled pending i t) l settled pending) pending
+  settled-alike i t = by-answer (stableEntries l settled pending i t) refl
     where
-      by-answer : (a : Changed) → settleAnswer l settled pending i t ≡ a → AfterChanged (Alike l settled pending) a (settleStore a l settled pending) pending
+      by-answer : (a : Changed) → stableEntries l settled pending i t ≡ a → AfterChanged (Alike l settled pending) a (stableEntriesStore a l settled pending) pending
       by-answer (changed.Now after) e = (settled-view l settled pending i t after e, ap (λ (a : Log). a .committed .0) (sym (settle-log l settled pending i t e)))
       by-answer (changed.Refused n) e = tt
 
 pub between-alike : (f : Follower) (b : Between) → (held (does f b) ≡ held f) × (committed (does f b) ≡ committed f)
 unfolding does
 between-alike f (settles i t) =
-    settled-carries (Alike (f .log) (f .settled) (f .pending)) (f .log) (f .settled) (f .pending) (refl, refl) (settleAnswer (f .log) (f .settled) (f .pending) i t) (settled-alike (f .log) (f .settled) (f .pending) i t)
+    settled-carries (Alike (f .log) (f .settled) (f .pending)) (f .log) (f .settled) (f .pending) (refl, refl) (stableEntries (f .log) (f .settled) (f .pending) i t) (settled-alike (f .log) (f .settled) (f .pending) i t)
 between-alike f (persists i t) =
     decided-carries (Alike (f .log) (f .settled) (f .pending)) (f .log) (f .settled) (f .pending) (refl, refl) (maybePersist (f .log) (f .settled) (f .pending) i t) (persisted-alike (f .log) (f .settled) (f .pending) i t)
 between-alike f (applies i) =

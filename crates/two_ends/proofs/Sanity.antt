@@ -15,10 +15,10 @@ use Rattle.raft_log.specs.declared.Appended.the-variants.{Done, Refused}
 use Rattle.raft_log.specs.Words.{putRun, firstFrom}
 use Rattle.raft_log.specs.State.{stateOk, termAt}
 use Rattle.raft_log.specs.Run.{numbered, termsSet}
-use Rattle.raft_log.specs.Append.{outside, decide, matchRun, appendAnswer, appendStore}
+use Rattle.raft_log.specs.Append.{outside, decide, matchRun, maybeAppend, maybeAppendStore}
 use Rattle.raft_log.specs.Commit.{appliedTo, maybePersist}
-use Rattle.raft_log.specs.Settle.{settleAnswer, settleStore}
-use Rattle.raft_log.specs.Setup.{fresh, setupOk, setupAnswer}
+use Rattle.raft_log.specs.Settle.{stableEntries, stableEntriesStore}
+use Rattle.raft_log.specs.Setup.{fresh, setupOk, newLog}
 use Rattle.log_laws.specs.View.{view-of}
 use Rattle.log_laws.specs.Keep.{NonzeroTerms}
 use Rattle.two_ends.specs.Follower.{Follower, held, Message, engine, settles, persists, applies, does, follow, Made, set-up, by-maybe-append, by-between}
@@ -29,7 +29,7 @@ use Rattle.two_ends.proofs.Agreeing.{agree-down}
 
 -- What the concrete facts compute through, all of it: to name this on an `unfolding` line is to open each.
 unfoldable pub concrete : Unit {0}
-unfolding entry-at Matching putRun firstFrom stateOk termAt numbered termsSet outside decide matchRun appendAnswer appendStore listed view-of as-run cut engine follow
+unfolding entry-at Matching putRun firstFrom stateOk termAt numbered termsSet outside decide matchRun maybeAppend maybeAppendStore listed view-of as-run cut engine follow
 concrete = tt
 
 -- ---- the calls that make the followers
@@ -39,7 +39,7 @@ abbrev begun : Follower
 begun = record { log = fresh 0 0 2; settled = 1 ∷ 11 ∷ 1 ∷ 12 ∷ 0 ∷ 0 ∷ 0 ∷ 0 ∷ []; pending = 0 ∷ 0 ∷ 0 ∷ 0 ∷ [] }
 
 begun-made : Made begun
-unfolding concrete setupAnswer setupOk
+unfolding concrete newLog setupOk
 begun-made = set-up 0 0 2 _ _ _ refl
 
 -- The other leader's third record; it has 1 committed.
@@ -48,11 +48,11 @@ others = record { idx = 2; term = 1; commit = 1; run = 3 ∷ 1 ∷ 99 ∷ [] }
 
 -- Then the record is settled and persisted, and the first is applied.
 follower-made : Made follower
-unfolding concrete does settleAnswer settleStore maybePersist appliedTo
+unfolding concrete does stableEntries stableEntriesStore maybePersist appliedTo
 follower-made = by-between _ (by-between _ (by-between _ (by-maybe-append begun begun-made others) (settles 3 1)) (persists 3 1)) (applies 1)
 
 late-made : Made late
-unfolding concrete setupAnswer setupOk
+unfolding concrete newLog setupOk
 late-made = set-up 2 1 3 _ _ _ refl
 
 -- ---- the premises

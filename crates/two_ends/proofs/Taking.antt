@@ -21,7 +21,7 @@ use Rattle.raft_log.specs.declared.Appended.{Appended}
 use Rattle.raft_log.specs.declared.Appended.the-variants as appended
 use Rattle.raft_log.specs.Words.{runCount, runTerm}
 use Rattle.raft_log.specs.State.{Good, termAt}
-use Rattle.raft_log.specs.Append.{differs, cuts, outside, mismatched, matchRun, appendAnswer}
+use Rattle.raft_log.specs.Append.{differs, cuts, outside, mismatched, matchRun, maybeAppend}
 use Rattle.raft_log.proofs.Searching.{found, same-not}
 use Rattle.raft_log.proofs.States.{split, refuted, not-both, neither, good-whole}
 use Rattle.log_laws.specs.View.{runEntry, runEntries}
@@ -78,7 +78,7 @@ module _ (f : Follower) (m : Message) where
     pub committed-is : committed g ≡ max (committed f) (min (m .commit) (last-index m))
 
   took-done : (c k : Index) (a : Log) → answer-to f m ≡ appended.Done c k a → Took (outcome-of f m (appended.Done c k a) .follower)
-  unfolding receiver appendAnswer matchRun
+  unfolding receiver maybeAppend matchRun
   took-done c k a e =
       let t = taken (f .log) (f .settled) (f .pending) (m .idx) (m .term) (m .commit) (m .run) c k a e in
       let s = first-end (contains (held f) (m .idx) (m .term)) (λ h. never cc) (t .steps) in

@@ -15,11 +15,11 @@ use Rattle.raft_log.specs.declared.Decided.{Decided}
 use Rattle.raft_log.specs.declared.Decided.the-variants as decided
 use Rattle.raft_log.specs.Words.{runCount, firstFrom}
 use Rattle.raft_log.specs.Run.{misnumbered, zeroTermIn}
-use Rattle.raft_log.specs.Append.{differs, afterMessage, overfull, appendAnswer, appendStore}
-use Rattle.raft_log.specs.Extend.{extendAnswer, extendStore}
+use Rattle.raft_log.specs.Append.{differs, afterMessage, overfull, maybeAppend, maybeAppendStore}
+use Rattle.raft_log.specs.Extend.{appendRun, appendRunStore}
 use Rattle.raft_log.specs.Commit.{commitTo, appliedTo, maybeCommit, maybePersist}
-use Rattle.raft_log.specs.Settle.{settleAnswer, settleStore}
-use Rattle.raft_log.specs.Setup.{setupAnswer}
+use Rattle.raft_log.specs.Settle.{stableEntries, stableEntriesStore}
+use Rattle.raft_log.specs.Setup.{newLog}
 use Rattle.log_laws.specs.View.{view-of}
 
 -- A follower: the state of its log, and the words of both stores. 01: "Two lent stores of u64".
@@ -85,11 +85,11 @@ Receiver = Follower → Message → Outcome
 
 -- The answer that `maybe_append` promises.
 abbrev pub answer-to : Follower → Message → Appended
-answer-to f m = appendAnswer (f .log) (f .settled) (f .pending) (m .idx) (m .term) (m .commit) (m .run)
+answer-to f m = maybeAppend (f .log) (f .settled) (f .pending) (m .idx) (m .term) (m .commit) (m .run)
 
 -- An answer, and the follower after it: its pending store is the one that `maybe_append` promises beside that answer.
 abbrev pub outcome-of : Follower → Message → Appended → Outcome
-outcome-of f m a = record { answer = a; follower = record { log = logAppended a (f .log); settled = f .settled; pending = appendStore a (f .pending) (m .idx) (m .run) } }
+outcome-of f m a = record { answer = a; follower = record { log = logAppended a (f .log); settled = f .settled; pending = maybeAppendStore a (f .pending) (m .idx) (m .run) } }
 
 -- THE ENGINE'S way to take a message in: what `maybe_append` promises.
 unfoldable pub engine : Receiver
@@ -122,11 +122,11 @@ with-log f l = record { log = l; settled = f .settled; pending = f .pending }
 
 -- After `stable_entries`, whose answer is a.
 abbrev pub settled-by : Follower → Changed → Follower
-settled-by f a = record { log = logChanged a (f .log); settled = settleStore a (f .log) (f .settled) (f .pending); pending = f .pending }
+settled-by f a = record { log = logChanged a (f .log); settled = stableEntriesStore a (f .log) (f .settled) (f .pending); pending = f .pending }
 
 -- The follower after what it does.
 unfoldable pub does : Follower → Between → Follower
-does f (settles i t) = settled-by f (settleAnswer (f .log) (f .settled) (f .pending) i t)
+does f (settles i t) = settled-by f (stableEntries (f .log) (f .settled) (f .pending) i t)
 does f (persists i t) = with-log f (logDecided (maybePersist (f .log) (f .settled) (f .pending) i t) (f .log))
 does f (applies i) = with-log f (logChanged (appliedTo (f .log) (f .settled) (f .pending) i) (f .log))
 does f reads = f
@@ -152,13 +152,13 @@ follow rcv f (e ∷ es) = follow rcv (step rcv f e) es
 
 -- After `append`, whose answer is a.
 abbrev pub extended-by : Follower → List ℕ → Extended → Follower
-extended-by f run a = record { log = logExtended a (f .log); settled = f .settled; pending = extendStore a (f .pending) run }
+extended-by f run a = record { log = logExtended a (f .log); settled = f .settled; pending = appendRunStore a (f .pending) run }
 
 -- What set-up makes, and what each call makes of what was made; the calls that only look change nothing.
 pub data Made : Follower → Type 0 where
-  set-up : (start startterm last : ℕ) (settled pending : List ℕ) (l : Log) → setupAnswer start startterm last settled ≡ changed.Now l → Made (record { log = l; settled = settled; pending = pending })
+  set-up : (start startterm last : ℕ) (settled pending : List ℕ) (l : Log) → newLog start startterm last settled ≡ changed.Now l → Made (record { log = l; settled = settled; pending = pending })
   by-maybe-append : (f : Follower) → Made f → (m : Message) → Made (engine f m .follower)
   by-between : (f : Follower) → Made f → (b : Between) → Made (does f b)
-  by-append : (f : Follower) → Made f → (run : List ℕ) → Made (extended-by f run (extendAnswer (f .log) (f .settled) (f .pending) run))
+  by-append : (f : Follower) → Made f → (run : List ℕ) → Made (extended-by f run (appendRun (f .log) (f .settled) (f .pending) run))
   by-commit-to : (f : Follower) → Made f → (i : ℕ) → Made (with-log f (logChanged (commitTo (f .log) (f .settled) (f .pending) i) (f .log)))
   by-maybe-commit : (f : Follower) → Made f → (i t : ℕ) → Made (with-log f (logDecided (maybeCommit (f .log) (f .settled) (f .pending) i t) (f .log)))

@@ -96,7 +96,7 @@ commits-blindly f m = outcome-of f m (accepting (λ conflict last after. Done co
 abbrev pub persisted-stays : Receiver
 persisted-stays f m = outcome-of f m (accepting (λ conflict last after. Done conflict last (withPersisted after (f .log .persisted .0))) (answer-to f m))
 
--- Does not give 4: the table of `appendAnswer` without that line.
+-- Does not give 4: the table of `maybeAppend` without that line.
 abbrev pub no-refusal-4 : Receiver
 no-refusal-4 f m =
     outcome-of f m

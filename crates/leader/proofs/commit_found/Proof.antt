@@ -9,7 +9,7 @@ use Rattle.units.specs.declared.Index.{Index}
 use Rattle.units.proofs.Cond.{past, taken}
 use Rattle.units.proofs.Never.{never}
 use Rattle.raft_log.specs.State.{broken}
-use Rattle.raft_log.specs.Look.{lookLast}
+use Rattle.raft_log.specs.Look.{lastIndex}
 use Rattle.raft_log.specs.declared.Log.{Log}
 use Rattle.raft_log.specs.declared.Placed.the-variants as placed
 use Rattle.leader.proofs.commit_found.Statement.{statement}
@@ -20,12 +20,12 @@ no-at e = never cc
 
 -- What the log's own answer says of its state.
 module _ (l : Log) (settled pending : List ℕ) where
-  whole : (i : Index) → lookLast l settled pending ≡ placed.At i → broken l settled pending ≡ false
-  unfolding lookLast
+  whole : (i : Index) → lastIndex l settled pending ≡ placed.At i → broken l settled pending ≡ false
+  unfolding lastIndex
   whole i e = past (broken l settled pending) no-at e .0
 
-  no-log : (m : ℕ) → lookLast l settled pending ≡ placed.Refused m → (broken l settled pending ≡ true) × (m ≡ brokenState)
-  unfolding lookLast
+  no-log : (m : ℕ) → lastIndex l settled pending ≡ placed.Refused m → (broken l settled pending ≡ true) × (m ≡ brokenState)
+  unfolding lastIndex
   no-log m e =
       let t = taken (broken l settled pending) (λ at. no-at (sym at)) e in
       (t .0, cc (t .1))

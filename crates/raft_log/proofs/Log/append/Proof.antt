@@ -14,8 +14,8 @@ put-read : (s run : List ℕ) (offset : ℕ) {first n : ℕ} → first ≡ runIn
     → putRun s (first - offset) run 0 n ≡ putRun s (runIndex run 0 - offset) run 0 (runCount run)
 put-read s run offset e f = cc
 
-extend-answer-requires : tie.Need-extend-answer-requires
-extend-answer-requires c κs = search needs
+append-run-answer-requires : tie.Need-append-run-answer-requires
+append-run-answer-requires c κs = search needs
 
 enum-known-answer : tie.Need-enum-known-answer
 enum-known-answer c = search needs
@@ -27,7 +27,7 @@ same-length : tie.Need-same-length
 same-length c = search needs
 
 returns : tie.Need-returns
-returns c = (c .before .before .extend-answer .ensures, store-refused _ _ (c .enum-told .given .1))
+returns c = (c .before .before .append-run-answer .ensures, store-refused _ _ (c .enum-told .given .1))
 
 same-length-2 : tie.Need-same-length-2
 same-length-2 c = search needs
@@ -35,7 +35,7 @@ same-length-2 c = search needs
 returns-2 : tie.Need-returns-2
 returns-2 c =
     let k = c .before .before in
-    (sym (k .answer .given .1) ∙ k .before .before .extend-answer .ensures, store-empty _ _ _ _ (c .if1 .taken))
+    (sym (k .answer .given .1) ∙ k .before .before .append-run-answer .ensures, store-empty _ _ _ _ (c .if1 .taken))
 
 run-index-requires : tie.Need-run-index-requires
 run-index-requires c κs = search needs
@@ -44,7 +44,7 @@ sub-at : tie.Need-sub-at
 sub-at c =
     let e = c .before .before in
     let k = e .before .before in
-    let cut = extend-cut _ _ _ _ (sym (k .before .before .extend-answer .ensures) ∙ k .answer .given .1) (e .if1 .left) in
+    let cut = extend-cut _ _ _ _ (sym (k .before .before .append-run-answer .ensures) ∙ k .answer .given .1) (e .if1 .left) in
     omega arith
 
 run-count-requires : tie.Need-run-count-requires
@@ -54,7 +54,7 @@ put-run-requires : tie.Need-put-run-requires
 put-run-requires c κs =
     let e = c .before .before .before .before in
     let k = e .before .before in
-    let cut = extend-cut _ _ _ _ (sym (k .before .before .extend-answer .ensures) ∙ k .answer .given .1) (e .if1 .left) in
+    let cut = extend-cut _ _ _ _ (sym (k .before .before .append-run-answer .ensures) ∙ k .answer .given .1) (e .if1 .left) in
     omega arith
 
 same-length-3 : tie.Need-same-length-3
@@ -67,13 +67,13 @@ returns-3 c =
     let i = n .before .before in
     let e = i .before in
     let k = e .before .before in
-    (sym (k .answer .given .1) ∙ k .before .before .extend-answer .ensures, p .put-run .ensures ∙ put-read _ _ _ (i .run-index .ensures) (n .run-count .ensures) ∙ store-put _ _ _ _ (e .if1 .left))
+    (sym (k .answer .given .1) ∙ k .before .before .append-run-answer .ensures, p .put-run .ensures ∙ put-read _ _ _ (i .run-index .ensures) (n .run-count .ensures) ∙ store-put _ _ _ _ (e .if1 .left))
 
 pub append-spec : {M : Type 1} → statement M
 append-spec =
     tie.close
     (tie.spec
-    extend-answer-requires
+    append-run-answer-requires
     enum-known-answer
     enum-told
     same-length

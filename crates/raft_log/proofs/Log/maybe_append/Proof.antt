@@ -6,8 +6,8 @@ use mathlib.Core.Path.{sym, _∙_}
 use Rattle.raft_log.proofs.Log.maybe_append.Statement.{statement}
 use Rattle.raft_log.proofs.Log.maybe_append.Tie as tie
 
-append-answer-requires : tie.Need-append-answer-requires
-append-answer-requires c κs = search needs
+maybe-append-answer-requires : tie.Need-maybe-append-answer-requires
+maybe-append-answer-requires c κs = search needs
 
 enum-known-answer : tie.Need-enum-known-answer
 enum-known-answer c = search needs
@@ -19,7 +19,7 @@ same-length : tie.Need-same-length
 same-length c = search needs
 
 returns : tie.Need-returns
-returns c = (c .before .before .append-answer .ensures, store-refused _ _ _ (c .enum-told .given .1))
+returns c = (c .before .before .maybe-append-answer .ensures, store-refused _ _ _ (c .enum-told .given .1))
 
 same-length-2 : tie.Need-same-length-2
 same-length-2 c = search needs
@@ -27,48 +27,48 @@ same-length-2 c = search needs
 returns-2 : tie.Need-returns-2
 returns-2 c =
     let k = c .before .before .before in
-    (sym (k .answer .given .1) ∙ k .before .before .append-answer .ensures, store-same _ _ _ _ _ _ (c .if1 .taken))
+    (sym (k .answer .given .1) ∙ k .before .before .maybe-append-answer .ensures, store-same _ _ _ _ _ _ (c .if1 .taken))
 
 sub-at : tie.Need-sub-at
 sub-at c =
     let e = c .before .before in
     let k = e .before .before .before in
-    let cut = answer-cut _ _ _ _ _ _ _ (sym (k .before .before .append-answer .ensures) ∙ k .answer .given .1) (e .if1 .left) in
+    let cut = answer-cut _ _ _ _ _ _ _ (sym (k .before .before .maybe-append-answer .ensures) ∙ k .answer .given .1) (e .if1 .left) in
     omega arith
 
 sub-from : tie.Need-sub-from
 sub-from c =
     let e = c .before .before .before .before in
     let k = e .before .before .before in
-    let cut = answer-cut _ _ _ _ _ _ _ (sym (k .before .before .append-answer .ensures) ∙ k .answer .given .1) (e .if1 .left) in
+    let cut = answer-cut _ _ _ _ _ _ _ (sym (k .before .before .maybe-append-answer .ensures) ∙ k .answer .given .1) (e .if1 .left) in
     omega arith
 
 sub-from-2 : tie.Need-sub-from-2
 sub-from-2 c =
     let e = c .before .before .before .before in
     let k = e .before .before .before in
-    let cut = answer-cut _ _ _ _ _ _ _ (sym (k .before .before .append-answer .ensures) ∙ k .answer .given .1) (e .if1 .left) in
+    let cut = answer-cut _ _ _ _ _ _ _ (sym (k .before .before .maybe-append-answer .ensures) ∙ k .answer .given .1) (e .if1 .left) in
     omega arith
 
 add-n : tie.Need-add-n
 add-n c =
     let e = c .before .before .before .before .before in
     let k = e .before .before .before in
-    let cut = answer-cut _ _ _ _ _ _ _ (sym (k .before .before .append-answer .ensures) ∙ k .answer .given .1) (e .if1 .left) in
+    let cut = answer-cut _ _ _ _ _ _ _ (sym (k .before .before .maybe-append-answer .ensures) ∙ k .answer .given .1) (e .if1 .left) in
     omega arith
 
 sub-n : tie.Need-sub-n
 sub-n c =
     let e = c .before .before .before .before .before .before in
     let k = e .before .before .before in
-    let cut = answer-cut _ _ _ _ _ _ _ (sym (k .before .before .append-answer .ensures) ∙ k .answer .given .1) (e .if1 .left) in
+    let cut = answer-cut _ _ _ _ _ _ _ (sym (k .before .before .maybe-append-answer .ensures) ∙ k .answer .given .1) (e .if1 .left) in
     omega arith
 
 put-run-requires : tie.Need-put-run-requires
 put-run-requires c κs =
     let e = c .before .before .before .before .before .before .before in
     let k = e .before .before .before in
-    let cut = answer-cut _ _ _ _ _ _ _ (sym (k .before .before .append-answer .ensures) ∙ k .answer .given .1) (e .if1 .left) in
+    let cut = answer-cut _ _ _ _ _ _ _ (sym (k .before .before .maybe-append-answer .ensures) ∙ k .answer .given .1) (e .if1 .left) in
     omega arith
 
 same-length-3 : tie.Need-same-length-3
@@ -79,13 +79,13 @@ returns-3 c =
     let p = c .before .before in
     let e = p .before .before .before .before .before .before .before .before in
     let k = e .before .before .before in
-    (sym (k .answer .given .1) ∙ k .before .before .append-answer .ensures, p .put-run .ensures ∙ store-cut _ _ _ _ _ _ (e .if1 .left))
+    (sym (k .answer .given .1) ∙ k .before .before .maybe-append-answer .ensures, p .put-run .ensures ∙ store-cut _ _ _ _ _ _ (e .if1 .left))
 
 pub maybe-append-spec : {M : Type 1} → statement M
 maybe-append-spec =
     tie.close
     (tie.spec
-    append-answer-requires
+    maybe-append-answer-requires
     enum-known-answer
     enum-told
     same-length

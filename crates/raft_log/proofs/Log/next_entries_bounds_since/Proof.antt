@@ -3,7 +3,7 @@ use mathlib.Core.Path.{sym, _∙_}
 use native.Mathlib.Omega.{arith}
 use borrow.Author.Tests.{not-true, not-false}
 use borrow.Author.Needs.{needs}
-use Rattle.raft_log.specs.Slice.{nextBounds}
+use Rattle.raft_log.specs.Slice.{nextEntriesBoundsSince}
 use Rattle.raft_log.proofs.States.{passed, test-says}
 use Rattle.raft_log.proofs.Slices.{next-none, next-some, next-true}
 use Rattle.raft_log.proofs.Log.next_entries_bounds_since.Statement.{statement}
@@ -13,7 +13,7 @@ state-ok-requires : tie.Need-state-ok-requires
 state-ok-requires c κs = search needs
 
 returns : tie.Need-returns
-unfolding nextBounds
+unfolding nextEntriesBoundsSince
 returns c = simp (test-says _ _ _ (c .before .state-ok .ensures) (c .if1 .taken))
 
 has-next-requires : tie.Need-has-next-requires

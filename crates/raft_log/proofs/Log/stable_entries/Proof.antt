@@ -6,8 +6,8 @@ use Rattle.raft_log.proofs.Settling.{settle-room, settled-kept, settled
 use Rattle.raft_log.proofs.Log.stable_entries.Statement.{statement}
 use Rattle.raft_log.proofs.Log.stable_entries.Tie as tie
 
-settle-answer-requires : tie.Need-settle-answer-requires
-settle-answer-requires c κs = search needs
+stable-entries-answer-requires : tie.Need-stable-entries-answer-requires
+stable-entries-answer-requires c κs = search needs
 
 enum-told : tie.Need-enum-told
 enum-told c = search needs
@@ -19,36 +19,36 @@ same-length : tie.Need-same-length
 same-length c = search needs
 
 returns : tie.Need-returns
-returns c = (c .before .before .settle-answer .ensures, settled-kept _ _ _ (c .enum-told2 .given .1))
+returns c = (c .before .before .stable-entries-answer .ensures, settled-kept _ _ _ (c .enum-told2 .given .1))
 
 sub-at : tie.Need-sub-at
 sub-at c =
     let a = c .before in
-    let r = settle-room _ _ _ _ _ (sym (a .before .before .settle-answer .ensures) ∙ a .enum-told .given .1) in
+    let r = settle-room _ _ _ _ _ (sym (a .before .before .stable-entries-answer .ensures) ∙ a .enum-told .given .1) in
     omega arith
 
 sub-at-2 : tie.Need-sub-at-2
 sub-at-2 c =
     let a = c .before .before in
-    let r = settle-room _ _ _ _ _ (sym (a .before .before .settle-answer .ensures) ∙ a .enum-told .given .1) in
+    let r = settle-room _ _ _ _ _ (sym (a .before .before .stable-entries-answer .ensures) ∙ a .enum-told .given .1) in
     omega arith
 
 mul-copy-words : tie.Need-mul-copy-words
 mul-copy-words c =
     let a = c .before .before .before in
-    let r = settle-room _ _ _ _ _ (sym (a .before .before .settle-answer .ensures) ∙ a .enum-told .given .1) in
+    let r = settle-room _ _ _ _ _ (sym (a .before .before .stable-entries-answer .ensures) ∙ a .enum-told .given .1) in
     omega arith
 
 mul-copy-words-2 : tie.Need-mul-copy-words-2
 mul-copy-words-2 c =
     let a = c .before .before .before in
-    let r = settle-room _ _ _ _ _ (sym (a .before .before .settle-answer .ensures) ∙ a .enum-told .given .1) in
+    let r = settle-room _ _ _ _ _ (sym (a .before .before .stable-entries-answer .ensures) ∙ a .enum-told .given .1) in
     omega arith
 
 copy-words-requires : tie.Need-copy-words-requires
 copy-words-requires c κs =
     let a = c .before .before .before in
-    let r = settle-room _ _ _ _ _ (sym (a .before .before .settle-answer .ensures) ∙ a .enum-told .given .1) in
+    let r = settle-room _ _ _ _ _ (sym (a .before .before .stable-entries-answer .ensures) ∙ a .enum-told .given .1) in
     omega arith
 
 same-length-2 : tie.Need-same-length-2
@@ -57,13 +57,13 @@ same-length-2 c = search needs
 returns-2 : tie.Need-returns-2
 returns-2 c =
     let a = c .before .before .before .before .before .before in
-    (a .before .before .settle-answer .ensures, c .before .before .copy-words .ensures ∙ settled-pasted _ _ _ (a .enum-told .given .1))
+    (a .before .before .stable-entries-answer .ensures, c .before .before .copy-words .ensures ∙ settled-pasted _ _ _ (a .enum-told .given .1))
 
 pub stable-entries-spec : {M : Type 1} → statement M
 stable-entries-spec =
     tie.close
     (tie.spec
-    settle-answer-requires
+    stable-entries-answer-requires
     enum-told
     enum-told-2
     same-length

@@ -1,4 +1,4 @@
--- `extend_answer` meets its contract: each answer has its law.
+-- `append_run_answer` meets its contract: each answer has its law.
 use Rattle.raft_log.specs.declared.Extended.the-variants.{Last, Refused}
 use Rattle.raft_log.specs.declared.run.Checked.{Checked}
 use Rattle.raft_log.specs.Run.{checkRun, refusedBy}
@@ -11,8 +11,8 @@ use native.Mathlib.Omega.{arith}
 use mathlib.Core.Path.{_≡_, sym, ap, _∙_}
 use Prim.Native.Nat.{ℕ, _-_}
 use borrow.Author.Needs.{needs}
-use Rattle.raft_log.proofs.append.extend_answer.Statement.{statement}
-use Rattle.raft_log.proofs.append.extend_answer.Tie as tie
+use Rattle.raft_log.proofs.append.append_run_answer.Statement.{statement}
+use Rattle.raft_log.proofs.append.append_run_answer.Tie as tie
 
 -- the check after the index before the run's first
 from-first : (run : List ℕ) {a b : ℕ} {r : Checked} → a ≡ b → r ≡ checkRun run (a - 1) → checkRun run (b - 1) ≡ r
@@ -85,8 +85,8 @@ returns-5 c =
     let on = extend-on _ _ _ _ ok (r .before .before .before .if2 .left) (λ z. r .before .if3 .left (first ∙ z)) (from-first _ first (r .check-run .ensures) ∙ c .before .before .checked .given .1) in
     cc
 
-pub extend-answer-spec : {M : Type 1} → statement M
-extend-answer-spec =
+pub append-run-answer-spec : {M : Type 1} → statement M
+append-run-answer-spec =
     tie.close
     (tie.spec
     state-ok-requires

@@ -1,11 +1,11 @@
--- `settle_answer` meets its contract: each answer has its law.
+-- `stable_entries_answer` meets its contract: each answer has its law.
 use mathlib.Core.Path.{sym, _∙_}
 use native.Mathlib.Omega.{arith}
 use borrow.Author.Needs.{needs}
 use Rattle.raft_log.proofs.States.{passed, test-says}
 use Rattle.raft_log.proofs.Settling.{settle-broken, settle-full, settle-other, settle-done}
-use Rattle.raft_log.proofs.settle_answer.Statement.{statement}
-use Rattle.raft_log.proofs.settle_answer.Tie as tie
+use Rattle.raft_log.proofs.stable_entries_answer.Statement.{statement}
+use Rattle.raft_log.proofs.stable_entries_answer.Tie as tie
 
 state-ok-requires : tie.Need-state-ok-requires
 state-ok-requires c κs = search needs
@@ -61,8 +61,8 @@ returns-6 c =
     let s = c .before .before .before .before .before .before .before .before .before .before in
     sym (settle-done _ _ _ _ _ (test-says _ _ _ (s .before .state-ok .ensures) (s .if1 .left)) _ (c .before .before .before .before .before .before .before .before .before .last-of .ensures) (omega arith) (record { some = omega arith; there = omega arith; same = omega arith }))
 
-pub settle-answer-spec : {M : Type 1} → statement M
-settle-answer-spec =
+pub stable-entries-answer-spec : {M : Type 1} → statement M
+stable-entries-answer-spec =
     tie.close
     (tie.spec
     state-ok-requires

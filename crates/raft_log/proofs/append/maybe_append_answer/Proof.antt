@@ -1,4 +1,4 @@
--- `append_answer` meets its contract: each answer has its law.
+-- `maybe_append_answer` meets its contract: each answer has its law.
 use Rattle.raft_log.specs.declared.Appended.the-variants.{Refused}
 use Rattle.raft_log.specs.Run.{refusedBy}
 use Rattle.raft_log.proofs.States.{passed, test-says}
@@ -8,8 +8,8 @@ use borrow.Author.Needs.{needs}
 use native.Mathlib.Omega.{arith}
 use mathlib.Core.Path.{sym, ap, _∙_}
 use Prim.Native.Nat.{ℕ}
-use Rattle.raft_log.proofs.append.append_answer.Statement.{statement}
-use Rattle.raft_log.proofs.append.append_answer.Tie as tie
+use Rattle.raft_log.proofs.append.maybe_append_answer.Statement.{statement}
+use Rattle.raft_log.proofs.append.maybe_append_answer.Tie as tie
 
 state-ok-requires : tie.Need-state-ok-requires
 state-ok-requires c κs = search needs
@@ -50,8 +50,8 @@ returns-3 c =
     let ok = test-says _ _ _ (r .before .before .state-ok .ensures) (r .before .if1 .left) in
     c .matched .ensures ∙ sym (answer-on _ _ _ _ _ _ _ ok (sym (r .check-run .ensures) ∙ c .before .before .checked .given .1))
 
-pub append-answer-spec : {M : Type 1} → statement M
-append-answer-spec =
+pub maybe-append-answer-spec : {M : Type 1} → statement M
+maybe-append-answer-spec =
     tie.close
     (tie.spec
     state-ok-requires
