@@ -376,7 +376,7 @@ module _ (window ring : List ℕ) where
 
   pub inflights-full-tells : (answer : List ℕ) → Tells fullness-is.Refused (fullness w (length ring)) (answer ∷ []) (fullLeaves window ring answer)
   unfolding fullness
-  inflights-full-tells answer = behind _ _ (behind _ _ (by-check (Answered fullness-is.Refused fullnessLeaves answer) fullUnless _ _ (window-numbered w (length ring)) (λ m. refuses) (full-tells answer (isFull w))))
+  inflights-full-tells answer = behind _ _ (behind _ _ (by-check (Answered fullness-is.Refused fullnessLeaves answer) fullUnless _ (isFull w) (window-numbered w (length ring)) (λ m. refuses) (full-tells answer (isFull w))))
 
   pub inflights-count-tells : (answer : List ℕ) → Tells count-is.Refused (counted w (length ring)) (answer ∷ []) (countLeaves window ring answer)
   unfolding counted

@@ -7,7 +7,7 @@ use native.Mathlib.Omega.{arith}
 use native.Mathlib.Nat.{min-eq-left, min-eq-right, sub-right-comm}
 use lib.ListN.{take}
 use lib.Seq.{take-append-le, take-append-add}
-use Rattle.units.proofs.Lists.{same-listed, append-listed, length-listed, take-listed}
+use Rattle.units.proofs.Lists.{length-listed, take-listed}
 use Rattle.rules.specs.Log.{Entry}
 use Rattle.rules.specs.Receiver.{with-entries}
 use Rattle.raft_log.specs.declared.Log.{Log}

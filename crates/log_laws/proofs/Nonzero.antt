@@ -1,12 +1,12 @@
 -- Records that all have a nonzero term, as a list and as a log; the paper's receiver keeps them so.
 use Prim.Native.Nat.{ℕ, _+_, _-_, _<_}
 use mathlib.Core.Path.{_≡_, sym, ap, subst, _∙_}
-use mathlib.Core.List.{List, [], _∷_, _++_}
+use mathlib.Core.List.{List, [], _∷_}
 use native.Mathlib.Omega.{arith}
-use lib.ListN.{length, getD, take, drop}
+use lib.ListN.{getD, drop}
 use Rattle.units.specs.Lists.{Each}
 use Rattle.units.proofs.Cond.{both-ends}
-use Rattle.units.proofs.Lists.{each-append, each-take, each-drop, each-at, at-each}
+use Rattle.units.proofs.Lists.{each-append, each-drop, each-at, at-each, each-take}
 use Rattle.rules.specs.Log.{Entry, nothing, Log, last}
 use Rattle.rules.specs.Receiver.{Message, Answer, reply-false, success, contains, conflicts, step-3, step-4, receiver}
 use Rattle.log_laws.specs.Keep.{NonzeroTerms}
@@ -38,7 +38,7 @@ module _ (l : Log) where
 step-3-set : (l : Log) (i : ℕ) (es : List Entry) → AllSet (l .entries) → AllSet (step-3 l i es .entries)
 unfolding step-3
 step-3-set l i [] p = p
-step-3-set l i (e ∷ es) p = both-ends (λ (d : Log). AllSet (d .entries)) (conflicts l i e) (set-take (i - l .start - 1) (l .entries) p) (step-3-set l (i + 1) es p)
+step-3-set l i (e ∷ es) p = both-ends (λ (d : Log). AllSet (d .entries)) (conflicts l i e) (each-take TermSet (i - l .start - 1) (l .entries) p) (step-3-set l (i + 1) es p)
 
 step-4-set : (l : Log) (prev : ℕ) (es : List Entry) → AllSet (l .entries) → AllSet es → AllSet (step-4 l prev es .entries)
 unfolding step-4

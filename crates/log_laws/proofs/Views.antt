@@ -8,6 +8,7 @@ use native.Mathlib.Omega.{arith}
 use borrow.Author.Tests.{lt-ltb, le-ltb}
 use lib.ListN.{length, getD, set, take, drop, length-append, length-set, List·getD-append, List·getD-eq-default}
 use lib.Seq.{getD-append-add, sets, length-sets, getD-set-same, getD-set-other, getD-take, getD-drop, paste, length-take-le, length-paste-head}
+use Rattle.units.specs.Lists.{listed}
 use Rattle.units.proofs.Cond.{both-ends}
 use Rattle.units.proofs.Lists.{length-listed, at-listed, same-listed, append-listed}
 use Rattle.units.proofs.Numbers.{below-or-not}

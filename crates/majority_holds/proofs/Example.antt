@@ -7,7 +7,6 @@ use native.Mathlib.Omega.{arith}
 use lib.Dec.{eqb, lit<, lit≤}
 use lib.ListN.{getD}
 use Rattle.units.specs.Units.{indexOf}
-use Rattle.units.specs.Lists.{listed}
 use Rattle.rules.specs.Count.{count}
 use Rattle.rules.specs.Log.{Entry, entry, whole-list, Same}
 use Rattle.rules.specs.Majority.{insert, falling, kth-largest, committed}
