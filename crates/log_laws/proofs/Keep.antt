@@ -20,10 +20,10 @@ use Rattle.raft_log.specs.declared.Appended.{Appended}
 use Rattle.raft_log.specs.declared.Appended.the-variants as appended
 use Rattle.raft_log.specs.declared.Decided.{Decided}
 use Rattle.raft_log.specs.declared.Decided.the-variants as decided
-use Rattle.raft_log.specs.Words.{room, runCount, firstFrom}
+use Rattle.raft_log.specs.Words.{room, runCount}
 use Rattle.raft_log.specs.State.{Good, broken, lastOf, termAt}
 use Rattle.raft_log.specs.Run.{termsSet, misnumbered, zeroTermIn}
-use Rattle.raft_log.specs.Append.{differs, withPending, withCommitted, cutLog, cutIf, commitUp, afterMessage, outside, cuts, overfull, maybeAppend, maybeAppendStore}
+use Rattle.raft_log.specs.Append.{withPending, withCommitted, cutLog, cutIf, commitUp, afterMessage, outside, cuts, overfull, maybeAppend, maybeAppendStore, alikeBefore}
 use Rattle.raft_log.specs.Extend.{firstOf, appendRun, appendRunStore}
 use Rattle.raft_log.specs.Commit.{withApplied, mayCommit, mayPersist, commitTo, appliedTo, maybeCommit, maybePersist}
 use Rattle.raft_log.specs.Settle.{stableEntries, stableEntriesStore}
@@ -271,7 +271,7 @@ module _ (l : Log) (settled pending : List ℕ) where
 module _ {l : Log} {settled pending : List ℕ} (g : Good l settled pending) where
   -- where no record differs, the last is held
   last-held : (idx term : ℕ) (run : List ℕ) → outside l idx term ≡ false → termAt l settled pending idx ≡ term → zeroTermIn run ≡ false
-      → runCount run ≤ firstFrom (differs l settled pending idx run) 0 (runCount run) → idx + runCount run ≤ lastOf l
+      → runCount run ≤ alikeBefore l settled pending idx run (runCount run) → idx + runCount run ≤ lastOf l
   unfolding termsSet
   last-held idx term run o e z h =
       let held : Held l settled pending idx run (runCount run) = record { good = g; within = held-within l settled pending idx term g o e; set = eqb-true _ _ (not-false _ z) } in
@@ -303,7 +303,7 @@ module _ (l : Log) (settled pending : List ℕ) where
       go : (x : Appended) → maybeAppend l settled pending idx term commit run ≡ x → AfterAppended Good x settled (maybeAppendStore x pending idx run)
       go (appended.Done c m a) e =
           let n : ℕ = runCount run in
-          let k : ℕ = firstFrom (differs l settled pending idx run) 0 (runCount run) in
+          let k : ℕ = alikeBefore l settled pending idx run (runCount run) in
           let (p, answer) = done-passed l settled pending idx term commit run e in
           let g = whole-good l settled pending (p .whole) in
           let same : afterMessage l idx n k commit ≡ a = cc answer in

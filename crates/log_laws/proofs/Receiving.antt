@@ -26,7 +26,7 @@ use Rattle.raft_log.specs.declared.Appended.the-variants.{Done, Refused}
 use Rattle.raft_log.specs.Words.{room, runCount, runTerm, firstFrom, putRun}
 use Rattle.raft_log.specs.State.{Good, lastOf, broken, termAt}
 use Rattle.raft_log.specs.Run.{misnumbered, zeroTermIn, zeroAt, termsSet}
-use Rattle.raft_log.specs.Append.{cuts, accepted, decide, matchRun, maybeAppend, outside, mismatched, differs, cutIf, commitUp, afterMessage, overfull, maybeAppendStore}
+use Rattle.raft_log.specs.Append.{cuts, accepted, decide, matchRun, maybeAppend, outside, mismatched, differs, cutIf, commitUp, afterMessage, overfull, maybeAppendStore, alikeBefore}
 use Rattle.log_laws.specs.View.{runEntry, runEntries, view-of, messageOf}
 use Rattle.raft_log.proofs.States.{refuted, neither, whole-good, no-term}
 use Rattle.raft_log.proofs.Searching.{found}
@@ -97,7 +97,7 @@ module _ (l : Log) (settled pending : List ℕ) (good : Good l settled pending) 
   n = runCount run
 
   abbrev k : ℕ
-  k = firstFrom (differs l settled pending idx run) 0 n
+  k = alikeBefore l settled pending idx run n
 
   abbrev v : Abstract
   v = view-of l settled pending
@@ -230,7 +230,7 @@ module _ (l : Log) (settled pending : List ℕ) (idx term commit : ℕ) (run : L
   count = runCount run
 
   abbrev alike : ℕ
-  alike = firstFrom (differs l settled pending idx run) 0 count
+  alike = alikeBefore l settled pending idx run count
 
   accepted-taken : Good l settled pending → contains (view-of l settled pending) idx term ≡ true → termsSet run ≡ true
       → overfull (afterMessage l idx count alike commit) pending ≡ false → TakenBy (accepted idx count alike (afterMessage l idx count alike commit))

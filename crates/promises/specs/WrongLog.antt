@@ -21,10 +21,10 @@ use Rattle.raft_log.specs.declared.Changed.the-variants as changed
 use Rattle.raft_log.specs.declared.Decided.the-variants as decided
 use Rattle.raft_log.specs.declared.Bounds.{Bounds}
 use Rattle.raft_log.specs.declared.Bounds.the-variants as bounds
-use Rattle.raft_log.specs.Words.{runCount, firstFrom}
+use Rattle.raft_log.specs.Words.{runCount}
 use Rattle.raft_log.specs.State.{broken}
 use Rattle.raft_log.specs.Run.{misnumbered, zeroTermIn}
-use Rattle.raft_log.specs.Append.{differs, withCommitted, cutIf, afterMessage, outside, mismatched, cuts, overfull, accepted, maybeAppend, maybeAppendStore}
+use Rattle.raft_log.specs.Append.{withCommitted, cutIf, afterMessage, outside, mismatched, cuts, overfull, accepted, maybeAppend, maybeAppendStore, alikeBefore}
 use Rattle.raft_log.specs.Extend.{appendRun, appendRunStore}
 use Rattle.raft_log.specs.Commit.{withApplied, withPersisted, commitTo, appliedTo, maybeCommit, maybePersist}
 use Rattle.raft_log.specs.Settle.{stableEntries, stableEntriesStore}
@@ -218,7 +218,7 @@ module _ (l : Log) (settled pending : List ℕ) (idx term commit : ℕ) (run : L
   another = mismatched l settled pending idx term
 
   abbrev pub alike : ℕ
-  alike = firstFrom (differs l settled pending idx run) 0 (runCount run)
+  alike = alikeBefore l settled pending idx run (runCount run)
 
   abbrev pub afterHeld : ℕ → Log
   afterHeld held = afterMessage l idx (runCount run) held commit

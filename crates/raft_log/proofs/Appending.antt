@@ -14,10 +14,10 @@ use Rattle.raft_log.specs.declared.Log.{Log}
 use Rattle.raft_log.specs.declared.Appended.{Appended}
 use Rattle.raft_log.specs.declared.Appended.the-variants.{Done, Refused}
 use Rattle.raft_log.specs.declared.run.Checked.the-variants.{Records, Refused as BadRun}
-use Rattle.raft_log.specs.Words.{room, runCount, firstFrom, putRun}
+use Rattle.raft_log.specs.Words.{room, runCount, putRun}
 use Rattle.raft_log.specs.State.{Good, broken, termAt, lastOf}
 use Rattle.raft_log.specs.Run.{misnumbered, zeroTermIn, checkRun}
-use Rattle.raft_log.specs.Append.{withPending, withCommitted, afterMessage, outside, mismatched, cuts, overfull, differs, conflictOf, accepted, decide, matchRun, maybeAppend, maybeAppendStore}
+use Rattle.raft_log.specs.Append.{withPending, withCommitted, afterMessage, outside, mismatched, cuts, overfull, conflictOf, accepted, decide, matchRun, maybeAppend, maybeAppendStore, alikeBefore}
 use Rattle.raft_log.proofs.States.{not-both, no-term}
 use Rattle.raft_log.proofs.Searching.{same-not, other-not}
 use Rattle.raft_log.proofs.Runs.{run-passed, run-refused, numbered-rises}
@@ -67,7 +67,7 @@ module _ (l : Log) (settled pending : List ℕ) (idx term commit : ℕ) (run : L
 
   pub match-on : outside l idx term ≡ false → termAt l settled pending idx ≡ term
       → matchRun l settled pending idx term commit run n
-      ≡ decide l pending idx commit n (firstFrom (differs l settled pending idx run) 0 n)
+      ≡ decide l pending idx commit n (alikeBefore l settled pending idx run n)
   unfolding matchRun
   match-on h e = simp (h, same-not e)
 
@@ -125,13 +125,13 @@ module _ (l : Log) (settled pending : List ℕ) (idx term commit : ℕ) (run : L
   n = runCount run
 
   abbrev alike : ℕ
-  alike = firstFrom (differs l settled pending idx run) 0 n
+  alike = alikeBefore l settled pending idx run n
 
   abbrev after : Log
   after = afterMessage l idx n alike commit
 
   -- no test of the table holds
-  pub record Passed : Type 0 where
+  pub record AllPassed : Type 0 where
     pub whole : broken l settled pending ≡ false
     pub formed : (misnumbered run idx ≡ false) × (zeroTermIn run ≡ false)
     pub inside : outside l idx term ≡ false
@@ -140,7 +140,7 @@ module _ (l : Log) (settled pending : List ℕ) (idx term commit : ℕ) (run : L
     pub room : overfull after pending ≡ false
 
   -- so it is where a message is taken, and the answer is the table's last line
-  pub done-passed : {c m : Index} {a : Log} → maybeAppend l settled pending idx term commit run ≡ Done c m a → Passed × (accepted idx n alike after ≡ Done c m a)
+  pub done-passed : {c m : Index} {a : Log} → maybeAppend l settled pending idx term commit run ≡ Done c m a → AllPassed × (accepted idx n alike after ≡ Done c m a)
   unfolding maybeAppend matchRun decide
   done-passed h =
       let t1 = past (broken l settled pending) no-done h in

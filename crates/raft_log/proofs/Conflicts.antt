@@ -10,7 +10,7 @@ use Rattle.raft_log.specs.declared.Log.{Log}
 use Rattle.raft_log.specs.Words.{runTerm, storeTerm, firstFrom, otherTerm}
 use Rattle.raft_log.specs.State.{Good, lastOf, termAt}
 use Rattle.raft_log.specs.Run.{zeroAt}
-use Rattle.raft_log.specs.Append.{differs}
+use Rattle.raft_log.specs.Append.{differs, alikeBefore}
 use Rattle.raft_log.proofs.States.{not-both, term-settled, term-pending, no-term}
 use Rattle.raft_log.proofs.Searching.{Found, found, found-is, none-below, same-not, other-not}
 use Rattle.units.proofs.Numbers.{below-or-not}
@@ -47,7 +47,7 @@ compared {l} {settled} {pending} {idx} {run} {r} store at k m e there =
 
 module _ {l : Log} {settled pending : List ℕ} {idx : ℕ} {run : List ℕ} {n : ℕ} (held : Held l settled pending idx run n) where
   is-first : {r : ℕ} → r ≤ n → ((j : ℕ) → j < r → agrees l settled pending idx run j) → (r < n → agrees l settled pending idx run r → ⊥)
-      → r ≡ firstFrom (differs l settled pending idx run) 0 n
+      → r ≡ alikeBefore l settled pending idx run n
   is-first {r} w before at =
       found-is
       (record {
@@ -64,9 +64,9 @@ module _ {l : Log} {settled pending : List ℕ} {idx : ℕ} {run : List ℕ} {n 
       (q ∙ no-term l settled pending (held .good) (idx + 1 + r) (inr (omega arith)))
 
   -- so the log holds every record before the first that differs
-  pub alike-held : idx + firstFrom (differs l settled pending idx run) 0 n ≤ lastOf l
+  pub alike-held : idx + alikeBefore l settled pending idx run n ≤ lastOf l
   alike-held =
-      let k : ℕ = firstFrom (differs l settled pending idx run) 0 n in
+      let k : ℕ = alikeBefore l settled pending idx run n in
       let f = found (differs l settled pending idx run) 0 n in
       ⊎-elim
       (λ far.
@@ -103,11 +103,11 @@ module _ {l : Log} {settled pending : List ℕ} {idx : ℕ} {run : List ℕ} {n 
         subst (agrees l settled pending idx run) q (s .same (j - k) (omega arith)))
         (below-or-not j k)
 
-    ends-within : r < m → k + m ≤ n → k + r ≡ firstFrom (differs l settled pending idx run) 0 n
+    ends-within : r < m → k + m ≤ n → k + r ≡ alikeBefore l settled pending idx run n
     ends-within h w = is-first (omega arith) all-agree (λ v. s .other h)
 
     -- or past it, where it reaches the run's last record or the log's
-    ends : k + m ≡ min n (lastOf l - idx) → k + r ≡ firstFrom (differs l settled pending idx run) 0 n
+    ends : k + m ≡ min n (lastOf l - idx) → k + r ≡ alikeBefore l settled pending idx run n
     ends e =
         ⊎-elim
         (λ lt. ends-within lt (omega arith))
@@ -123,20 +123,20 @@ module _ {l : Log} {settled pending : List ℕ} {idx : ℕ} {run : List ℕ} {n 
   -- all the records to compare are settled
   pub conflict-held : {r : ℕ} (m : ℕ) → m ≡ min n (lastOf l - idx) → idx + 1 + m ≤ l .offset .0
       → r ≡ firstFrom (otherTerm settled (idx - l .start .0) run 0) 0 m
-      → r ≡ firstFrom (differs l settled pending idx run) 0 n
+      → r ≡ alikeBefore l settled pending idx run n
   conflict-held {r} m d w e = sym (zero-add r) ∙ ends nothing-before (in-settled m w e) (zero-add m ∙ d)
 
   -- a settled one differs
   pub conflict-settled : {r : ℕ} (m : ℕ) → m ≤ n → idx + 1 + m ≤ l .offset .0
       → r ≡ firstFrom (otherTerm settled (idx - l .start .0) run 0) 0 m → r < m
-      → r ≡ firstFrom (differs l settled pending idx run) 0 n
+      → r ≡ alikeBefore l settled pending idx run n
   conflict-settled {r} m v w e h = sym (zero-add r) ∙ ends-within nothing-before (in-settled m w e) h (omega arith)
 
   -- the settled ones agree, and the others are pending
   pub conflict-over : {k r : ℕ} (gap m : ℕ) → gap + m ≡ min n (lastOf l - idx) → idx + 1 + gap ≡ l .offset .0
       → k ≡ firstFrom (otherTerm settled (idx - l .start .0) run 0) 0 gap → gap ≤ k
       → r ≡ firstFrom (otherTerm pending 0 run gap) 0 m
-      → gap + r ≡ firstFrom (differs l settled pending idx run) 0 n
+      → gap + r ≡ alikeBefore l settled pending idx run n
   conflict-over gap m d o f h e =
       ends
       (λ j w. all-agree nothing-before (in-settled gap (omega arith) f) j (omega arith))
@@ -146,5 +146,5 @@ module _ {l : Log} {settled pending : List ℕ} {idx : ℕ} {run : List ℕ} {n 
   -- all are pending
   pub conflict-pending : {r : ℕ} (at m : ℕ) → m ≡ min n (lastOf l - idx) → l .offset .0 + at ≡ idx + 1
       → r ≡ firstFrom (otherTerm pending at run 0) 0 m
-      → r ≡ firstFrom (differs l settled pending idx run) 0 n
+      → r ≡ alikeBefore l settled pending idx run n
   conflict-pending {r} at m d p e = sym (zero-add r) ∙ ends nothing-before (in-pending at 0 m (omega arith) (omega arith) e) (zero-add m ∙ d)

@@ -16,6 +16,10 @@ use Rattle.raft_log.specs.Run.{misnumbered, zeroTermIn}
 abbrev pub differs : Log → List ℕ → List ℕ → ℕ → List ℕ → ℕ → Bool
 differs l settled pending idx run k = not (eqb (runTerm run k) (termAt l settled pending (idx + 1 + k)))
 
+-- How many of a run's n records come before the first that differs; n where none does.
+abbrev pub alikeBefore : Log → List ℕ → List ℕ → ℕ → List ℕ → ℕ → ℕ
+alikeBefore l settled pending idx run n = firstFrom (differs l settled pending idx run) 0 n
+
 -- 01: "the conflict is the first run record whose term differs from term(its index), 0 if none." (by how many come before it)
 abbrev pub conflictOf : ℕ → ℕ → ℕ → ℕ
 conflictOf idx n k = cond (ltb k n) (idx + 1 + k) 0
@@ -94,7 +98,7 @@ unfoldable pub matchRun : Log → List ℕ → List ℕ → ℕ → ℕ → ℕ 
 matchRun l settled pending idx term commit run n =
     cond (outside l idx term) (Refused outsideLog)
     (cond (mismatched l settled pending idx term) (Refused mismatch)
-    (decide l pending idx commit n (firstFrom (differs l settled pending idx run) 0 n)))
+    (decide l pending idx commit n (alikeBefore l settled pending idx run n)))
 
 -- THE PROMISE of `maybe_append`: the whole table, in document 01's order.
 unfoldable pub maybeAppend : Log → List ℕ → List ℕ → ℕ → ℕ → ℕ → List ℕ → Appended

@@ -26,7 +26,7 @@ ghost use Rattle.units.specs.Units.{wordMax, indexLimit};
 ghost use Rattle.raft_log.specs.Words.{room, runCount, firstFrom};
 ghost use Rattle.raft_log.specs.State.{Good, lastOf};
 ghost use Rattle.raft_log.specs.Run.{zeroAt};
-ghost use Rattle.raft_log.specs.Append.{differs, outside, matchRun, decide, maybeAppend};
+ghost use Rattle.raft_log.specs.Append.{alikeBefore, outside, matchRun, decide, maybeAppend};
 ghost use Rattle.raft_log.specs.Extend.{extendFrom, appendRun};
 
 // The first differing record of a run that begins among the settled records: its first `gap` records have settled places, and the log has records for the first `held`.
@@ -45,7 +45,7 @@ fn conflict_across(
     requires { ⌜ (log .start .0 ≤ idx) × (idx ≤ lastOf log) ⌝ }
     requires { ⌜ firstFrom (zeroAt (now run)) 0 n ≡ n ⌝ }
     requires { ⌜ (idx + 1 + gap ≡ log .offset .0) × (held ≡ min n (lastOf log - idx)) ⌝ }
-    ensures { λ r. ⌜ r ≡ firstFrom (differs log (now (settled .entry)) (now (pending .entry)) idx (now (run .entry))) 0 n ⌝ }
+    ensures { λ r. ⌜ r ≡ alikeBefore log (now (settled .entry)) (now (pending .entry)) idx (now (run .entry)) n ⌝ }
 {
     let at = idx - log.start.0;
     if held <= gap {
@@ -64,7 +64,7 @@ fn first_conflict(log: Log, settled: &[u64], pending: &[u64], idx: u64, run: &[u
     requires { ⌜ Good log (now settled) (now pending) ⌝ }
     requires { ⌜ (log .start .0 ≤ idx) × (idx ≤ lastOf log) ⌝ }
     requires { ⌜ firstFrom (zeroAt (now run)) 0 n ≡ n ⌝ }
-    ensures { λ r. ⌜ r ≡ firstFrom (differs log (now (settled .entry)) (now (pending .entry)) idx (now (run .entry))) 0 n ⌝ }
+    ensures { λ r. ⌜ r ≡ alikeBefore log (now (settled .entry)) (now (pending .entry)) idx (now (run .entry)) n ⌝ }
 {
     let offset = log.offset.0;
     let held = smaller(n, last_of(log, settled, pending) - idx);

@@ -27,7 +27,7 @@ module _ (f : Follower) (m : Message) where
 
   -- No test of the table holds.
   abbrev pub Passed : Type 0
-  Passed = appending.Passed (f .log) (f .settled) (f .pending) (m .idx) (m .term) (m .commit) (m .run)
+  Passed = appending.AllPassed (f .log) (f .settled) (f .pending) (m .idx) (m .term) (m .commit) (m .run)
 
   pub done-passed : (c k : Index) (a : Log) → answer-to f m ≡ Done c k a → Passed × (accepted (m .idx) n (alike f m) after ≡ Done c k a)
   done-passed c k a = appending.done-passed (f .log) (f .settled) (f .pending) (m .idx) (m .term) (m .commit) (m .run)

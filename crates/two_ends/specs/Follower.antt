@@ -13,9 +13,9 @@ use Rattle.raft_log.specs.declared.Changed.{Changed}
 use Rattle.raft_log.specs.declared.Changed.the-variants as changed
 use Rattle.raft_log.specs.declared.Decided.{Decided}
 use Rattle.raft_log.specs.declared.Decided.the-variants as decided
-use Rattle.raft_log.specs.Words.{runCount, firstFrom}
+use Rattle.raft_log.specs.Words.{runCount}
 use Rattle.raft_log.specs.Run.{misnumbered, zeroTermIn}
-use Rattle.raft_log.specs.Append.{differs, afterMessage, overfull, maybeAppend, maybeAppendStore}
+use Rattle.raft_log.specs.Append.{afterMessage, overfull, maybeAppend, maybeAppendStore, alikeBefore}
 use Rattle.raft_log.specs.Extend.{appendRun, appendRunStore}
 use Rattle.raft_log.specs.Commit.{commitTo, appliedTo, maybeCommit, maybePersist}
 use Rattle.raft_log.specs.Settle.{stableEntries, stableEntriesStore}
@@ -97,7 +97,7 @@ engine f m = outcome-of f m (answer-to f m)
 
 -- So many of the message's records come before the first that differs from what is held.
 abbrev pub alike : Follower → Message → ℕ
-alike f m = firstFrom (differs (f .log) (f .settled) (f .pending) (m .idx) (m .run)) 0 (runCount (m .run))
+alike f m = alikeBefore (f .log) (f .settled) (f .pending) (m .idx) (m .run) (runCount (m .run))
 
 -- "and has room": the table's rule 7, "pending after the call longer than its store", does not hold.
 abbrev pub HasRoom : Follower → Message → Type 0
