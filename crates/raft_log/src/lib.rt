@@ -6,8 +6,8 @@ mod run;
 mod state;
 mod words;
 
-use append::maybe_append_answer;
 use append::append_run_answer;
+use append::maybe_append_answer;
 use state::last_of;
 use state::state_ok;
 use state::term_at;
