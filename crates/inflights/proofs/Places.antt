@@ -2,11 +2,9 @@
 use Prim.Native.Nat.{ℕ, zero, suc, _+_, _-_, _≤_, _<_, _%_, max}
 use mathlib.Core.Path.{_≡_, sym, ap, _∙_}
 use mathlib.Core.Logic.{⊎-elim, _⊎_, inl, inr}
-use lib.Dec.{ltb}
-use borrow.Author.Tests.{ltb-true, ltb-false}
 use native.Mathlib.Nat.{zero-mod, mod-lt, mod-zero, mod-eq-of-lt, mod-eq-sub-mod, mod-add-mod}
 use native.Mathlib.Omega.{arith}
-use Rattle.units.proofs.Cond.{either-end}
+use Rattle.units.proofs.Numbers.{below-or-not}
 use Rattle.inflights.specs.Ring.{placeOf, InRing}
 
 pub place-in : (s i n : ℕ) → s < n → placeOf s i n < n
@@ -45,10 +43,7 @@ Turn s i n p = (p ≡ s + i) ⊎ (p + n ≡ s + i)
 
 turn : (s i n : ℕ) → s < n → i ≤ n → Turn s i n (placeOf s i n)
 unfolding Turn
-turn s i n h k =
-    either-end (λ (_ : ℕ). Turn s i n (placeOf s i n)) (ltb (s + i) n) {x = 0} {y = 1}
-    (λ t. inl (place-low s i n (ltb-true _ _ t)))
-    (λ t. let l = ltb-false (s + i) n t in let e = place-high s i n h k l in inr (omega arith))
+turn s i n h k = ⊎-elim (λ l. inl (place-low s i n l)) (λ l. let e = place-high s i n h k l in inr (omega arith)) (below-or-not (s + i) n)
 
 pub place-other : (s i j n : ℕ) → s < n → i < j → j < n → placeOf s i n ≡ placeOf s j n → ⊥
 unfolding Turn

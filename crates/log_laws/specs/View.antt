@@ -3,7 +3,7 @@ use Prim.Native.Nat.{ℕ, _+_, _-_, _*_}
 use mathlib.Core.List.{List, _++_}
 use lib.ListN.{getD}
 use Rattle.units.specs.Lists.{listed}
-use Rattle.rules.specs.Log.{Entry, Log as Abstract}
+use Rattle.rules.specs.Log.{Entry, Log as Abstract, entry}
 use Rattle.rules.specs.Receiver.{Message}
 use Rattle.raft_log.specs.declared.Log.{Log}
 use Rattle.raft_log.specs.Words.{recordWords, storeTerm, runCount, runTerm, runBody}
@@ -14,11 +14,11 @@ storeBody s k = getD s (k * recordWords + 1) 0
 
 -- Record k of a store.
 abbrev pub storeEntry : List ℕ → ℕ → Entry
-storeEntry s k = record { term = storeTerm s k; body = storeBody s k }
+storeEntry s k = entry (storeTerm s k) (storeBody s k)
 
 -- Record k of a run.
 abbrev pub runEntry : List ℕ → ℕ → Entry
-runEntry run k = record { term = runTerm run k; body = runBody run k }
+runEntry run k = entry (runTerm run k) (runBody run k)
 
 -- The first n records of a store.
 abbrev pub records : ℕ → List ℕ → List Entry

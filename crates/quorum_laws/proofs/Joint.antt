@@ -7,7 +7,6 @@ use mathlib.Core.Logic.{_↔_}
 use native.Mathlib.Omega.{arith}
 use native.Mathlib.Nat.{le-antisymm, le-trans}
 use Rattle.units.specs.Units.{wordMax}
-use Rattle.units.specs.Lists.{Each}
 use Rattle.rules.specs.Majority.{committed}
 use Rattle.rules.proofs.Majority.{reached-falls, committed-commits, committed-each}
 use Rattle.quorum.specs.Half.{halfIndex, joined}
@@ -20,14 +19,10 @@ joint-unique {xs} {ys} {m} {n} a b =
     le-antisymm (b .largest m (a .fits) (a .by-incoming) (a .by-outgoing)) (a .largest n (b .fits) (b .by-incoming) (b .by-outgoing))
 
 -- One half.
-each-word : (acks : List ℕ) → Words acks → Each (λ a. a ≤ wordMax) acks
-each-word [] w = tt
-each-word (a ∷ acks) w = (w .0, each-word acks (w .1))
-
 pub index-fits : (acks : List ℕ) → Words acks → halfIndex acks .index ≤ wordMax
 unfolding halfIndex
 index-fits [] w = omega arith
-index-fits (a ∷ acks) w = committed-each (λ n. n ≤ wordMax) (a ∷ acks) (omega arith) (each-word (a ∷ acks) w)
+index-fits (a ∷ acks) w = committed-each (λ n. n ≤ wordMax) (a ∷ acks) (omega arith) w
 
 -- It backs every number up to its index, ..
 pub half-backs : (acks : List ℕ) (m : ℕ) → m ≤ halfIndex acks .index → Backs acks m

@@ -2,11 +2,12 @@
 -- The rest is said of both halves at once.
 use Prim.Native.Nat.{ℕ, _≤_}
 use mathlib.Core.Path.{_≡_}
-use mathlib.Core.List.{List, [], _∷_, map}
+use mathlib.Core.List.{List, [], map}
 use mathlib.Core.Logic.{_⊎_}
 use Rattle.units.specs.Units.{wordMax}
 use Rattle.units.specs.Refusals.{bothChecks}
 use Rattle.units.specs.declared.Check.the-variants as check
+use Rattle.units.specs.Lists.{Each}
 use Rattle.rules.specs.Count.{Reordered}
 use Rattle.quorum.specs.Rows.{ackNumber, rowsCheck}
 use Rattle.quorum.specs.Voters.{votersOf, votersCheck}
@@ -27,8 +28,7 @@ JointWhole c peers = bothChecks (configCheck c) (rowsCheck peers) ≡ check.Fine
 
 -- Each acknowledgement is a number of 64 bits, as the code's are: at most the index of nobody, which 01, Joint, names: "u64::MAX if both are empty".
 abbrev pub Words : List ℕ → Type 0
-Words [] = Unit {0}
-Words (a ∷ acks) = (a ≤ wordMax) × Words acks
+Words acks = Each (λ a. a ≤ wordMax) acks
 
 -- Each in the rows is. 01: "A peer row holds its acknowledgement as missing or a number".
 abbrev pub WordRows : List Peer → Type 0

@@ -4,14 +4,14 @@ use mathlib.Core.Path.{_≡_, refl, ap, sym, _∙_}
 use mathlib.Core.Bool.{Bool, true, false}
 use mathlib.Core.List.{List}
 use native.Mathlib.Omega.{arith}
-use lib.ListN.{length, drop, take, getD, length-drop}
-use lib.Seq.{take-all}
+use lib.ListN.{length, drop, take, getD}
 use borrow.Author.Needs.{needs}
 use Rattle.quorum.specs.Ids.{has, distinct}
 use Rattle.exports.specs.Rows.{rowLength, rowIds}
 use Rattle.exports.proofs.RowWords.{ids-next, ids-end}
 use Rattle.exports.proofs.halves.distinct.Statement.{statement}
 use Rattle.exports.proofs.halves.distinct.Tie as tie
+use Rattle.units.proofs.Lists.{to-the-end}
 
 -- b is what `stands` answered of the rows behind the one at a place
 module _ (words : List ℕ) (at : ℕ) (h : at + rowLength ≤ length words) (b : Bool) where
@@ -20,7 +20,7 @@ module _ (words : List ℕ) (at : ℕ) (h : at + rowLength ≤ length words) (b 
 
   module _ (answered : b ≡ has (getD words at 0) (rowIds (take (length words - (at + rowLength)) others))) where
     told : has (getD words at 0) (rowIds others) ≡ b
-    told = ap (λ (rest : List ℕ). has (getD words at 0) (rowIds rest)) (sym (take-all (length words - (at + rowLength)) others (omega (arith, length-drop (at + rowLength) words)))) ∙ sym answered
+    told = ap (λ (rest : List ℕ). has (getD words at 0) (rowIds rest)) (sym (to-the-end words (at + rowLength))) ∙ sym answered
 
     twice : b ≡ true → distinct (rowIds (drop at words)) ≡ false
     unfolding distinct
