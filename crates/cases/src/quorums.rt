@@ -9,7 +9,6 @@ use peer_tables::majority;
 use quorum::Committed;
 use quorum::Verdict;
 use quorum::VoteResult;
-use quorum::joint::Answer;
 use quorum::joint::Ids;
 use quorum::joint::JointConfig;
 use quorum::majority::Voters;
@@ -20,6 +19,7 @@ use quorum::rows::Rows;
 use quorum::rows::Vote;
 use units::Check;
 use units::Index;
+use units::YesOrNo;
 
 fn committed(answer: Committed) {
     match answer {
@@ -45,16 +45,16 @@ fn verdict(answer: Verdict) {
     }
 }
 
-fn told(answer: Answer) {
+fn told(answer: YesOrNo) {
     match answer {
-        Answer::Is(b) => {
+        YesOrNo::Is(b) => {
             if b {
                 text(b"yes\n");
             } else {
                 text(b"no\n");
             }
         }
-        Answer::Refused(n) => refusal(n),
+        YesOrNo::Refused(n) => refusal(n),
     }
 }
 

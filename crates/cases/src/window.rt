@@ -7,10 +7,10 @@ use crate::print::text;
 use inflights::Answer;
 use inflights::Counted;
 use inflights::Deferred;
-use inflights::Fullness;
 use inflights::Inflights;
 use inflights::Step;
 use inflights::bridge;
+use units::YesOrNo;
 
 // The word at a place, and the place behind it.
 fn word(ring: &[u64], at: usize) -> u64 {
@@ -54,9 +54,14 @@ fn waiting(deferred: Deferred) {
 
 fn room(w: Inflights, ring: &[u64]) {
     match w.full(ring) {
-        Fullness::Full => text(b", full\n"),
-        Fullness::NotFull => text(b", not full\n"),
-        Fullness::Refused(_) => text(b"\n"),
+        YesOrNo::Is(full) => {
+            if full {
+                text(b", full\n");
+            } else {
+                text(b", not full\n");
+            }
+        }
+        YesOrNo::Refused(_) => text(b"\n"),
     }
 }
 

@@ -6,9 +6,10 @@ use Prim.Native.Nat.{ℕ, _-_, min}
 use native.Mathlib.Omega.{arith}
 use lib.Dec.{eqb, leb, ltb}
 use lib.ListN.{length}
-use Rattle.units.specs.Refusals.{refusalOf, fineOr, bothChecks}
+use Rattle.units.specs.Refusals.{refusalOf, fineOr, bothChecks, isUnless}
 use Rattle.units.specs.declared.Check.{Check}
 use Rattle.units.specs.declared.Check.the-variants as check
+use Rattle.units.specs.declared.YesOrNo.the-variants as yes-or-no
 use Rattle.units.proofs.Cond.{both-ends}
 use Rattle.units.proofs.Never.{never}
 use Rattle.raft_log.specs.Words.{runCount}
@@ -32,7 +33,6 @@ use Rattle.raft_log.specs.declared.Decided.{Decided}
 use Rattle.raft_log.specs.declared.Decided.the-variants as decided
 use Rattle.raft_log.specs.declared.Looked.the-variants as looked
 use Rattle.raft_log.specs.declared.Placed.the-variants as placed
-use Rattle.raft_log.specs.declared.Told.the-variants as told
 use Rattle.raft_log.specs.declared.Info.the-variants as info
 use Rattle.raft_log.specs.declared.ByTerm.the-variants as byterm
 use Rattle.raft_log.specs.declared.Bounds.{Bounds}
@@ -42,26 +42,24 @@ use Rattle.quorum.specs.Ids.{distinct}
 use Rattle.quorum.specs.Rows.{idOf, rowsCheck}
 use Rattle.quorum.specs.Voters.{votersOf, votersCheck, setOf}
 use Rattle.quorum.specs.Majority.{indexUnless as committedUnless, resultUnless, committedIndex, voteResult}
-use Rattle.quorum.specs.Joint.{configCheck, isUnless as answerUnless, bothIds, listedUnless, jointIndex, jointVerdict, singleton, containsOf, idsAnswer}
+use Rattle.quorum.specs.Joint.{configCheck, bothIds, listedUnless, jointIndex, jointVerdict, singleton, containsOf, idsAnswer}
 use Rattle.quorum.specs.declared.Committed.the-variants as committed
 use Rattle.quorum.specs.declared.Verdict.the-variants as verdict
-use Rattle.quorum.specs.declared.joint.Answer.the-variants as joint-answer
 use Rattle.quorum.specs.declared.joint.JointConfig.{JointConfig}
 use Rattle.quorum.specs.declared.majority.Voters.{Voters}
 use Rattle.quorum.specs.declared.rows.Peer.{Peer}
 use Rattle.leader.specs.Leader.{commitFound, leaderCommit}
 use Rattle.inflights.specs.State.{sound, windowCheck, capCheck, isFull, roomCheck}
-use Rattle.inflights.specs.Calls.{windowUnless, fullUnless, countUnless, ringUnless, madeWindow, setCapCheck, capped, fullness, counted, addCheck, added, ringAfter, freedTo, freedFirst, cleared, rewound}
+use Rattle.inflights.specs.Calls.{windowUnless, countUnless, ringUnless, madeWindow, setCapCheck, capped, fullness, counted, addCheck, added, ringAfter, freedTo, freedFirst, cleared, rewound}
 use Rattle.inflights.specs.declared.Inflights.{Inflights}
 use Rattle.inflights.specs.declared.Answer.the-variants as window-answer
-use Rattle.inflights.specs.declared.Fullness.the-variants as fullness-is
 use Rattle.inflights.specs.declared.Counted.the-variants as count-is
-use Rattle.exports.specs.Words.{logFrom, Outcome, leaves, withStore, unlessShort}
+use Rattle.exports.specs.Words.{logFrom, Outcome, leaves, yesOrNoLeaves, withStore, unlessShort}
 use Rattle.exports.specs.LogCalls.{appendedLeaves, extendedLeaves, changedLeaves, decidedLeaves, newLogLeaves, maybeAppendLeaves, appendLeaves, commitToLeaves, maybeCommitLeaves, appliedToLeaves, maybePersistLeaves, stableEntriesLeaves}
-use Rattle.exports.specs.Reads.{lookedLeaves, placedLeaves, toldLeaves, infoLeaves, byTermLeaves, boundsLeaves, termLeaves, firstIndexLeaves, lastIndexLeaves, lastTermLeaves, commitInfoLeaves, isUpToDateLeaves, findConflictByTermLeaves, sliceLeaves, entriesLeaves, nextEntriesSinceLeaves, hasNextEntriesSinceLeaves, NamesHeld}
+use Rattle.exports.specs.Reads.{lookedLeaves, placedLeaves, infoLeaves, byTermLeaves, boundsLeaves, termLeaves, firstIndexLeaves, lastIndexLeaves, lastTermLeaves, commitInfoLeaves, isUpToDateLeaves, findConflictByTermLeaves, sliceLeaves, entriesLeaves, nextEntriesSinceLeaves, hasNextEntriesSinceLeaves, NamesHeld}
 use Rattle.exports.specs.Rows.{peersFrom, configFrom}
-use Rattle.exports.specs.QuorumCalls.{committedLeaves, verdictLeaves, answerLeaves, idsLeaves, majorityIndexLeaves, majorityResultLeaves, jointIndexLeaves, jointResultLeaves, singletonLeaves, containsLeaves, jointIdsLeaves, clearLeaves, votersRefusal, jointRefusal, rowsRefusal, leaderCommitLeaves}
-use Rattle.exports.specs.WindowCalls.{windowFrom, windowLeaves, fullnessLeaves, countedLeaves, changes, newWindowLeaves, setCapLeaves, addLeaves, freeToLeaves, freeFirstOneLeaves, resetLeaves, maybeFreeBufferLeaves, fullLeaves, countLeaves}
+use Rattle.exports.specs.QuorumCalls.{committedLeaves, verdictLeaves, idsLeaves, majorityIndexLeaves, majorityResultLeaves, jointIndexLeaves, jointResultLeaves, singletonLeaves, containsLeaves, jointIdsLeaves, clearLeaves, votersRefusal, jointRefusal, rowsRefusal, leaderCommitLeaves}
+use Rattle.exports.specs.WindowCalls.{windowFrom, windowLeaves, countedLeaves, changes, newWindowLeaves, setCapLeaves, addLeaves, freeToLeaves, freeFirstOneLeaves, resetLeaves, maybeFreeBufferLeaves, fullLeaves, countLeaves}
 use Rattle.exports.specs.Results.{Tells}
 use Rattle.exports.proofs.Lengths.{by-length}
 use Rattle.exports.proofs.Parts.{slice-sound, entries-sound, next-sound}
@@ -139,9 +137,9 @@ module _ (log settled pending : List ℕ) where
   unfolding commitInfo
   log-commit-info-tells answer = behind _ _ (behind _ _ (both-ends (Answered info.Refused infoLeaves answer) (broken (logFrom log) settled pending) (refuses (omega arith)) (answers (λ n e. cc))))
 
-  pub log-is-up-to-date-tells : (i t : ℕ) (answer : List ℕ) → Tells told.Refused (isUpToDate (logFrom log) settled pending i t) (answer ∷ []) (isUpToDateLeaves log settled pending i t answer)
+  pub log-is-up-to-date-tells : (i t : ℕ) (answer : List ℕ) → Tells yes-or-no.Refused (isUpToDate (logFrom log) settled pending i t) (answer ∷ []) (isUpToDateLeaves log settled pending i t answer)
   unfolding isUpToDate
-  log-is-up-to-date-tells i t answer = behind _ _ (behind _ _ (both-ends (Answered told.Refused toldLeaves answer) (broken (logFrom log) settled pending) (refuses (omega arith)) (answers (λ n e. cc))))
+  log-is-up-to-date-tells i t answer = behind _ _ (behind _ _ (both-ends (Answered yes-or-no.Refused yesOrNoLeaves answer) (broken (logFrom log) settled pending) (refuses (omega arith)) (answers (λ n e. cc))))
 
   pub log-find-conflict-by-term-tells : (i t : ℕ) (answer : List ℕ) → Tells byterm.Refused (findConflictByTerm (logFrom log) settled pending i t) (answer ∷ []) (findConflictByTermLeaves log settled pending i t answer)
   unfolding findConflictByTerm byTermIn
@@ -236,9 +234,9 @@ module _ (log settled pending : List ℕ) where
   pub log-next-entries-since-tells : (s : ℕ) (answer : List ℕ) → Tells bounds.Refused (nextEntriesBoundsSince (logFrom log) settled pending s) (answer ∷ []) (nextEntriesSinceLeaves log settled pending s answer)
   log-next-entries-since-tells s answer = behind _ _ (behind _ _ (bounds-tells answer _ _ settled pending (next-sound (logFrom log) settled pending s)))
 
-  pub log-has-next-entries-since-tells : (s : ℕ) (answer : List ℕ) → Tells told.Refused (hasNextEntriesSince (logFrom log) settled pending s) (answer ∷ []) (hasNextEntriesSinceLeaves log settled pending s answer)
+  pub log-has-next-entries-since-tells : (s : ℕ) (answer : List ℕ) → Tells yes-or-no.Refused (hasNextEntriesSince (logFrom log) settled pending s) (answer ∷ []) (hasNextEntriesSinceLeaves log settled pending s answer)
   unfolding hasNextEntriesSince
-  log-has-next-entries-since-tells s answer = behind _ _ (behind _ _ (both-ends (Answered told.Refused toldLeaves answer) (broken (logFrom log) settled pending) (refuses (omega arith)) (answers (λ n e. cc))))
+  log-has-next-entries-since-tells s answer = behind _ _ (behind _ _ (both-ends (Answered yes-or-no.Refused yesOrNoLeaves answer) (broken (logFrom log) settled pending) (refuses (omega arith)) (answers (λ n e. cc))))
 
 -- ---- The quorums, and the leader's step
 
@@ -276,11 +274,11 @@ module _ (rows answer : List ℕ) where
   joint-vote-result-tells incoming outgoing = behind _ _ (by-check (Answered verdict.Refused verdictLeaves answer) resultUnless _ _ (sets-numbered (configFrom incoming outgoing) (peersFrom rows)) (λ m. refuses) (answers (λ n e. cc)))
 
 module _ (incoming outgoing answer : List ℕ) where
-  pub joint-is-singleton-tells : Tells joint-answer.Refused (singleton (configFrom incoming outgoing)) (answer ∷ []) (singletonLeaves incoming outgoing answer)
-  joint-is-singleton-tells = behind _ _ (by-check (Answered joint-answer.Refused answerLeaves answer) answerUnless _ _ (config-numbered (configFrom incoming outgoing)) (λ m. refuses) (answers (λ n e. cc)))
+  pub joint-is-singleton-tells : Tells yes-or-no.Refused (singleton (configFrom incoming outgoing)) (answer ∷ []) (singletonLeaves incoming outgoing answer)
+  joint-is-singleton-tells = behind _ _ (by-check (Answered yes-or-no.Refused yesOrNoLeaves answer) isUnless _ _ (config-numbered (configFrom incoming outgoing)) (λ m. refuses) (answers (λ n e. cc)))
 
-  pub joint-contains-tells : (id : ℕ) → Tells joint-answer.Refused (containsOf (configFrom incoming outgoing) id) (answer ∷ []) (containsLeaves incoming outgoing id answer)
-  joint-contains-tells id = behind _ _ (by-check (Answered joint-answer.Refused answerLeaves answer) answerUnless _ _ (config-numbered (configFrom incoming outgoing)) (λ m. refuses) (answers (λ n e. cc)))
+  pub joint-contains-tells : (id : ℕ) → Tells yes-or-no.Refused (containsOf (configFrom incoming outgoing) id) (answer ∷ []) (containsLeaves incoming outgoing id answer)
+  joint-contains-tells id = behind _ _ (by-check (Answered yes-or-no.Refused yesOrNoLeaves answer) isUnless _ _ (config-numbered (configFrom incoming outgoing)) (λ m. refuses) (answers (λ n e. cc)))
 
   pub joint-ids-tells : Tells check.Refused (idsAnswer (configFrom incoming outgoing) .check) (answer ∷ []) (jointIdsLeaves incoming outgoing answer)
   joint-ids-tells =
@@ -338,10 +336,6 @@ added-tells : (window ring written : List ℕ) (c : Check) (w : Inflights) → N
 added-tells window ring written check.Fine w g = answers (λ n e. cc)
 added-tells window ring written (check.Refused m) w g = refuses (g m refl)
 
-full-tells : (answer : List ℕ) (b : Bool) → Answered fullness-is.Refused fullnessLeaves answer (fullUnless check.Fine b)
-full-tells answer true = answers (λ n e. cc)
-full-tells answer false = answers (λ n e. cc)
-
 pub inflights-new-tells : (cap : ℕ) (ring window : List ℕ) → Tells window-answer.Refused (madeWindow cap (length ring)) (window ∷ []) (newWindowLeaves cap ring window)
 unfolding madeWindow
 inflights-new-tells cap ring window = changes-tells window _ _ (cap-numbered cap (length ring))
@@ -374,9 +368,9 @@ module _ (window ring : List ℕ) where
   unfolding rewound
   inflights-maybe-free-buffer-tells = changes-tells window _ _ (window-numbered w (length ring))
 
-  pub inflights-full-tells : (answer : List ℕ) → Tells fullness-is.Refused (fullness w (length ring)) (answer ∷ []) (fullLeaves window ring answer)
+  pub inflights-full-tells : (answer : List ℕ) → Tells yes-or-no.Refused (fullness w (length ring)) (answer ∷ []) (fullLeaves window ring answer)
   unfolding fullness
-  inflights-full-tells answer = behind _ _ (behind _ _ (by-check (Answered fullness-is.Refused fullnessLeaves answer) fullUnless _ (isFull w) (window-numbered w (length ring)) (λ m. refuses) (full-tells answer (isFull w))))
+  inflights-full-tells answer = behind _ _ (behind _ _ (by-check (Answered yes-or-no.Refused yesOrNoLeaves answer) isUnless _ (isFull w) (window-numbered w (length ring)) (λ m. refuses) (answers (λ n e. cc))))
 
   pub inflights-count-tells : (answer : List ℕ) → Tells count-is.Refused (counted w (length ring)) (answer ∷ []) (countLeaves window ring answer)
   unfolding counted

@@ -15,12 +15,10 @@ use Rattle.quorum.specs.declared.Verdict.{Verdict}
 use Rattle.quorum.specs.declared.Verdict.the-variants as verdict
 use Rattle.quorum.specs.declared.VoteResult.{VoteResult}
 use Rattle.quorum.specs.declared.VoteResult.the-variants as result
-use Rattle.quorum.specs.declared.joint.Answer.{Answer}
-use Rattle.quorum.specs.declared.joint.Answer.the-variants as answer
 use Rattle.quorum.specs.declared.joint.Ids.{Ids}
 use Rattle.quorum.specs.declared.joint.JointConfig.{JointConfig}
 use Rattle.leader.specs.Leader.{leaderCommit}
-use Rattle.exports.specs.Words.{logLength, singleLength, pairLength, idsLength, logFrom, flagWord, put, Outcome, leaves, unlessShort}
+use Rattle.exports.specs.Words.{logLength, singleLength, pairLength, idsLength, logFrom, flagWord, put, Outcome, leaves, yesOrNoLeaves, unlessShort}
 use Rattle.exports.specs.LogCalls.{decidedLeaves}
 use Rattle.exports.specs.Rows.{peersFrom, configFrom}
 
@@ -39,11 +37,6 @@ committedLeaves (committed.Refused number) values = leaves number (values ∷ []
 abbrev pub verdictLeaves : Verdict → List ℕ → Outcome
 verdictLeaves (verdict.Stands r) values = leaves 0 (put values (resultWord r ∷ []) ∷ [])
 verdictLeaves (verdict.Refused number) values = leaves number (values ∷ [])
-
--- What a yes-or-no answer leaves of `answer`.
-abbrev pub answerLeaves : Answer → List ℕ → Outcome
-answerLeaves (answer.Is b) values = leaves 0 (put values (flagWord b ∷ []) ∷ [])
-answerLeaves (answer.Refused number) values = leaves number (values ∷ [])
 
 -- What a list of ids leaves of `answer`: how many ids, then all the words of their list, which are 0 behind the last id.
 abbrev pub listedLeaves : Check → ℕ → List ℕ → List ℕ → Outcome
@@ -82,11 +75,11 @@ module _ (incoming outgoing rows values : List ℕ) where
 module _ (incoming outgoing : List ℕ) where
   -- `joint_is_singleton`.
   abbrev pub singletonLeaves : List ℕ → Outcome
-  singletonLeaves values = unlessShort values singleLength (values ∷ []) (answerLeaves (singleton (configFrom incoming outgoing)) values)
+  singletonLeaves values = unlessShort values singleLength (values ∷ []) (yesOrNoLeaves (singleton (configFrom incoming outgoing)) values)
 
   -- `joint_contains`.
   abbrev pub containsLeaves : ℕ → List ℕ → Outcome
-  containsLeaves id values = unlessShort values singleLength (values ∷ []) (answerLeaves (containsOf (configFrom incoming outgoing) id) values)
+  containsLeaves id values = unlessShort values singleLength (values ∷ []) (yesOrNoLeaves (containsOf (configFrom incoming outgoing) id) values)
 
   -- `joint_ids`.
   abbrev pub jointIdsLeaves : List ℕ → Outcome

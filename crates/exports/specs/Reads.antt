@@ -14,15 +14,13 @@ use Rattle.raft_log.specs.declared.Looked.{Looked}
 use Rattle.raft_log.specs.declared.Looked.the-variants as looked
 use Rattle.raft_log.specs.declared.Placed.{Placed}
 use Rattle.raft_log.specs.declared.Placed.the-variants as placed
-use Rattle.raft_log.specs.declared.Told.{Told}
-use Rattle.raft_log.specs.declared.Told.the-variants as told
 use Rattle.raft_log.specs.declared.Info.{Info}
 use Rattle.raft_log.specs.declared.Info.the-variants as info
 use Rattle.raft_log.specs.declared.ByTerm.{ByTerm}
 use Rattle.raft_log.specs.declared.ByTerm.the-variants as byterm
 use Rattle.raft_log.specs.declared.Bounds.{Bounds}
 use Rattle.raft_log.specs.declared.Bounds.the-variants as bounds
-use Rattle.exports.specs.Words.{logLength, singleLength, pairLength, tripleLength, partLength, logFrom, flagWord, put, Outcome, leaves, reading}
+use Rattle.exports.specs.Words.{logLength, singleLength, pairLength, tripleLength, partLength, logFrom, flagWord, put, Outcome, leaves, yesOrNoLeaves, reading}
 
 -- What an answer with a term leaves of `answer`: the term; or the refusal's number as the result.
 abbrev pub lookedLeaves : Looked → List ℕ → Outcome
@@ -33,11 +31,6 @@ lookedLeaves (looked.Refused number) answer = leaves number (answer ∷ [])
 abbrev pub placedLeaves : Placed → List ℕ → Outcome
 placedLeaves (placed.At index) answer = leaves 0 (put answer (index .0 ∷ []) ∷ [])
 placedLeaves (placed.Refused number) answer = leaves number (answer ∷ [])
-
--- What an answer with a yes or a no leaves of `answer`.
-abbrev pub toldLeaves : Told → List ℕ → Outcome
-toldLeaves (told.Is b) answer = leaves 0 (put answer (flagWord b ∷ []) ∷ [])
-toldLeaves (told.Refused number) answer = leaves number (answer ∷ [])
 
 -- What an answer with an index and a term leaves of `answer`.
 abbrev pub infoLeaves : Info → List ℕ → Outcome
@@ -92,7 +85,7 @@ commitInfoLeaves log settled pending answer = reading log logLength pairLength a
 
 -- THE PROMISE of `log_is_up_to_date`.
 abbrev pub isUpToDateLeaves : List ℕ → List ℕ → List ℕ → ℕ → ℕ → List ℕ → Outcome
-isUpToDateLeaves log settled pending i t answer = reading log logLength singleLength answer (toldLeaves (isUpToDate (logFrom log) settled pending i t) answer)
+isUpToDateLeaves log settled pending i t answer = reading log logLength singleLength answer (yesOrNoLeaves (isUpToDate (logFrom log) settled pending i t) answer)
 
 -- THE PROMISE of `log_find_conflict_by_term`.
 abbrev pub findConflictByTermLeaves : List ℕ → List ℕ → List ℕ → ℕ → ℕ → List ℕ → Outcome
@@ -112,7 +105,7 @@ nextEntriesSinceLeaves log settled pending s answer = reading log logLength part
 
 -- THE PROMISE of `log_has_next_entries_since`.
 abbrev pub hasNextEntriesSinceLeaves : List ℕ → List ℕ → List ℕ → ℕ → List ℕ → Outcome
-hasNextEntriesSinceLeaves log settled pending s answer = reading log logLength singleLength answer (toldLeaves (hasNextEntriesSince (logFrom log) settled pending s) answer)
+hasNextEntriesSinceLeaves log settled pending s answer = reading log logLength singleLength answer (yesOrNoLeaves (hasNextEntriesSince (logFrom log) settled pending s) answer)
 
 -- The store that a number names.
 abbrev pub storeAt : ℕ → List ℕ → List ℕ → List ℕ

@@ -11,11 +11,9 @@ use Rattle.inflights.specs.declared.Deferred.{Deferred}
 use Rattle.inflights.specs.declared.Deferred.the-variants as deferred
 use Rattle.inflights.specs.declared.Answer.{Answer}
 use Rattle.inflights.specs.declared.Answer.the-variants as answer
-use Rattle.inflights.specs.declared.Fullness.{Fullness}
-use Rattle.inflights.specs.declared.Fullness.the-variants as fullness-is
 use Rattle.inflights.specs.declared.Counted.{Counted}
 use Rattle.inflights.specs.declared.Counted.the-variants as count-is
-use Rattle.exports.specs.Words.{singleLength, windowLength, flagWord, put, Outcome, leaves, withStore, unlessShort, reading}
+use Rattle.exports.specs.Words.{singleLength, windowLength, flagWord, put, Outcome, leaves, yesOrNoLeaves, withStore, unlessShort, reading}
 
 -- ---- The window's words
 
@@ -52,12 +50,6 @@ windowWords w = w .start ∷ w .count ∷ w .cap ∷ isDeferred (w .deferred) �
 abbrev pub windowLeaves : Answer → List ℕ → Outcome
 windowLeaves (answer.Now w) window = leaves 0 (put window (windowWords w) ∷ [])
 windowLeaves (answer.Refused number) window = leaves number (window ∷ [])
-
--- Of `answer`: whether the window is full.
-abbrev pub fullnessLeaves : Fullness → List ℕ → Outcome
-fullnessLeaves fullness-is.Full answer = leaves 0 (put answer (flagWord true ∷ []) ∷ [])
-fullnessLeaves fullness-is.NotFull answer = leaves 0 (put answer (flagWord false ∷ []) ∷ [])
-fullnessLeaves (fullness-is.Refused number) answer = leaves number (answer ∷ [])
 
 -- Of `answer`: the count.
 abbrev pub countedLeaves : Counted → List ℕ → Outcome
@@ -102,7 +94,7 @@ addLeaves window ring inflight =
 
 -- `inflights_full`.
 abbrev pub fullLeaves : List ℕ → List ℕ → List ℕ → Outcome
-fullLeaves window ring answer = reading window windowLength singleLength answer (fullnessLeaves (fullness (windowFrom window) (length ring)) answer)
+fullLeaves window ring answer = reading window windowLength singleLength answer (yesOrNoLeaves (fullness (windowFrom window) (length ring)) answer)
 
 -- `inflights_count`.
 abbrev pub countLeaves : List ℕ → List ℕ → List ℕ → Outcome

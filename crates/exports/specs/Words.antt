@@ -8,6 +8,8 @@ use lib.Dec.{ltb}
 use lib.Seq.{sets}
 use Rattle.units.specs.Units.{indexOf, termOf}
 use Rattle.units.specs.Refusals.{brokenState}
+use Rattle.units.specs.declared.YesOrNo.{YesOrNo}
+use Rattle.units.specs.declared.YesOrNo.the-variants as yes-or-no
 use Rattle.quorum.specs.Limits.{idLimit}
 use Rattle.raft_log.specs.declared.Log.{Log}
 
@@ -71,6 +73,11 @@ pub record Outcome : Type 0 where
 -- The same, by its two parts.
 abbrev pub leaves : ℕ → List (List ℕ) → Outcome
 leaves result slices = record { result = result; slices = slices }
+
+-- What a yes-or-no answer leaves of `answer`: the flag; or the refusal's number as the result. 01, "Refusals": "Every refusal returns its number alone and changes nothing."
+abbrev pub yesOrNoLeaves : YesOrNo → List ℕ → Outcome
+yesOrNoLeaves (yes-or-no.Is b) answer = leaves 0 (put answer (flagWord b ∷ []) ∷ [])
+yesOrNoLeaves (yes-or-no.Refused number) answer = leaves number (answer ∷ [])
 
 -- An outcome with the store that the call writes.
 abbrev pub withStore : List ℕ → Outcome → Outcome

@@ -7,15 +7,15 @@ use raft_log::Info;
 use raft_log::Log;
 use raft_log::Looked;
 use raft_log::Placed;
-use raft_log::Told;
+use units::YesOrNo;
 ghost use mathlib.Core.Path.{_≡_};
 ghost use mathlib.Core.List.{[], _∷_};
 ghost use Prim.Native.Nat.{_-_, _*_, _≤_};
 ghost use lib.ListN.{length};
 ghost use Rattle.units.specs.Units.{wordMax};
 ghost use Rattle.raft_log.specs.Words.{recordWords};
-ghost use Rattle.exports.specs.Words.{singleLength, pairLength, tripleLength, partLength, put, leaves};
-ghost use Rattle.exports.specs.Reads.{lookedLeaves, placedLeaves, toldLeaves, infoLeaves, byTermLeaves, partWords, boundsLeaves, NamesHeld};
+ghost use Rattle.exports.specs.Words.{singleLength, pairLength, tripleLength, partLength, put, leaves, yesOrNoLeaves};
+ghost use Rattle.exports.specs.Reads.{lookedLeaves, placedLeaves, infoLeaves, byTermLeaves, partWords, boundsLeaves, NamesHeld};
 
 // The store that holds a part, by number.
 const SETTLED: u64 = 1;
@@ -48,16 +48,16 @@ pub fn write_placed(answer: &mut [u64], said: Placed) -> u64
     }
 }
 
-pub fn write_told(answer: &mut [u64], said: Told) -> u64
+pub fn write_yes_or_no(answer: &mut [u64], said: YesOrNo) -> u64
     requires { ⌜ singleLength ≤ length (now answer) ⌝ }
-    ensures { λ r. ⌜ leaves r (now (answer .exit) ∷ []) ≡ toldLeaves said (now (answer .entry)) ⌝ }
+    ensures { λ r. ⌜ leaves r (now (answer .exit) ∷ []) ≡ yesOrNoLeaves said (now (answer .entry)) ⌝ }
 {
     match said {
-        Told::Is(yes) => {
+        YesOrNo::Is(yes) => {
             answer[0] = flag(yes);
             0
         }
-        Told::Refused(number) => number,
+        YesOrNo::Refused(number) => number,
     }
 }
 

@@ -1,5 +1,6 @@
 // The questions of crate quorum over words. Each tests that the answer has room, reads the sets and the rows, asks, and writes last.
 // The checks of sets and rows are their result alone, and write nothing.
+use crate::answers::write_yes_or_no;
 use crate::halves::joint_index;
 use crate::halves::joint_verdict;
 use crate::halves::majority_index;
@@ -13,7 +14,6 @@ use crate::words::store_pair;
 use quorum::Committed;
 use quorum::Verdict;
 use quorum::VoteResult;
-use quorum::joint::Answer;
 use quorum::joint::Ids;
 use quorum::joint::JointConfig;
 use quorum::majority::ids_checked;
@@ -25,7 +25,7 @@ ghost use Prim.Native.Nat.{_≤_};
 ghost use lib.ListN.{length};
 ghost use lib.Seq.{sets};
 ghost use Rattle.exports.specs.Words.{singleLength, pairLength, idsLength, leaves};
-ghost use Rattle.exports.specs.QuorumCalls.{resultWord, committedLeaves, verdictLeaves, answerLeaves, idsLeaves, sizesLeaves, majorityIndexLeaves, majorityResultLeaves, jointIndexLeaves, jointResultLeaves, singletonLeaves, containsLeaves, jointIdsLeaves, clearLeaves, votersRefusal, jointRefusal, rowsRefusal};
+ghost use Rattle.exports.specs.QuorumCalls.{resultWord, committedLeaves, verdictLeaves, idsLeaves, sizesLeaves, majorityIndexLeaves, majorityResultLeaves, jointIndexLeaves, jointResultLeaves, singletonLeaves, containsLeaves, jointIdsLeaves, clearLeaves, votersRefusal, jointRefusal, rowsRefusal};
 
 fn result_word(result: VoteResult) -> u64
     ensures { λ r. ⌜ r ≡ resultWord result ⌝ }
@@ -61,19 +61,6 @@ fn write_verdict(answer: &mut [u64], said: Verdict) -> u64
             0
         }
         Verdict::Refused(number) => number,
-    }
-}
-
-fn write_answer(answer: &mut [u64], said: Answer) -> u64
-    requires { ⌜ singleLength ≤ length (now answer) ⌝ }
-    ensures { λ r. ⌜ leaves r (now (answer .exit) ∷ []) ≡ answerLeaves said (now (answer .entry)) ⌝ }
-{
-    match said {
-        Answer::Is(b) => {
-            answer[0] = flag(b);
-            0
-        }
-        Answer::Refused(number) => number,
     }
 }
 
@@ -180,7 +167,7 @@ pub extern "C" fn joint_is_singleton(incoming: &[u64], outgoing: &[u64], answer:
         return BROKEN_STATE;
     }
     let said = config(incoming, outgoing).is_singleton();
-    write_answer(answer, said)
+    write_yes_or_no(answer, said)
 }
 
 // Whether `id` is a voter of either half.
@@ -197,7 +184,7 @@ pub extern "C" fn joint_contains(
         return BROKEN_STATE;
     }
     let said = config(incoming, outgoing).contains(id);
-    write_answer(answer, said)
+    write_yes_or_no(answer, said)
 }
 
 // The ids of both halves in rising order. Values: how many, and a word for each that there can be.

@@ -4,7 +4,7 @@ use crate::answers::write_by_term;
 use crate::answers::write_info;
 use crate::answers::write_looked;
 use crate::answers::write_placed;
-use crate::answers::write_told;
+use crate::answers::write_yes_or_no;
 use crate::words::LOG;
 use crate::words::PAIR;
 use crate::words::PART;
@@ -142,7 +142,7 @@ pub extern "C" fn log_is_up_to_date(
     }
     let before = load(log);
     let said = before.is_up_to_date(settled, pending, Index(i), Term(t));
-    write_told(answer, said)
+    write_yes_or_no(answer, said)
 }
 
 // The largest index at most i whose term is at most t. Values: the index, 1 if a term goes with it, the term.
@@ -254,5 +254,5 @@ pub extern "C" fn log_has_next_entries_since(
     }
     let before = load(log);
     let said = before.has_next_entries_since(settled, pending, Index(s));
-    write_told(answer, said)
+    write_yes_or_no(answer, said)
 }

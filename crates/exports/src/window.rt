@@ -1,8 +1,8 @@
 // The calls of crate inflights over words. Each tests that its slices are long enough, loads the window, calls, and writes last: the window or the value, where the call was not refused.
+use crate::answers::write_yes_or_no;
 use crate::window_words::WINDOW;
 use crate::window_words::load_window;
 use crate::window_words::write_counted;
-use crate::window_words::write_fullness;
 use crate::window_words::write_window;
 use crate::words::SINGLE;
 use inflights::Inflights;
@@ -115,7 +115,7 @@ pub extern "C" fn inflights_full(window: &[u64], ring: &[u64], answer: &mut [u64
     }
     let before = load_window(window);
     let said = before.full(ring);
-    write_fullness(answer, said)
+    write_yes_or_no(answer, said)
 }
 
 // Value: the number of flights.

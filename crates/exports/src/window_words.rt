@@ -3,14 +3,13 @@ use crate::words::flag;
 use inflights::Answer;
 use inflights::Counted;
 use inflights::Deferred;
-use inflights::Fullness;
 use inflights::Inflights;
 ghost use mathlib.Core.Path.{_≡_};
 ghost use mathlib.Core.List.{[], _∷_};
 ghost use Prim.Native.Nat.{_≤_};
 ghost use lib.ListN.{length};
 ghost use Rattle.exports.specs.Words.{singleLength, windowLength, put, leaves};
-ghost use Rattle.exports.specs.WindowCalls.{deferredFrom, isDeferred, deferredCap, windowFrom, windowWords, windowLeaves, fullnessLeaves, countedLeaves};
+ghost use Rattle.exports.specs.WindowCalls.{deferredFrom, isDeferred, deferredCap, windowFrom, windowWords, windowLeaves, countedLeaves};
 
 // Words of a window's state: start, count, cap, 1 if a smaller cap is deferred (else 0), the deferred cap (else 0).
 pub const WINDOW: usize = 5;
@@ -82,23 +81,6 @@ pub fn write_window(window: &mut [u64], said: Answer) -> u64
             0
         }
         Answer::Refused(number) => number,
-    }
-}
-
-pub fn write_fullness(answer: &mut [u64], said: Fullness) -> u64
-    requires { ⌜ singleLength ≤ length (now answer) ⌝ }
-    ensures { λ r. ⌜ leaves r (now (answer .exit) ∷ []) ≡ fullnessLeaves said (now (answer .entry)) ⌝ }
-{
-    match said {
-        Fullness::Full => {
-            answer[0] = flag(true);
-            0
-        }
-        Fullness::NotFull => {
-            answer[0] = flag(false);
-            0
-        }
-        Fullness::Refused(number) => number,
     }
 }
 

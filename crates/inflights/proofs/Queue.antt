@@ -12,23 +12,25 @@ use borrow.Author.Tests.{eqb-true, eqb-false, leb-true, leb-false}
 use lib.Dec.{leb, eqb}
 use lib.ListN.{length, getD, set, drop, length-set}
 use lib.Seq.{getD-set-same, getD-set-other}
+use Rattle.units.specs.Refusals.{isUnless}
 use Rattle.units.specs.declared.Check.{Check}
 use Rattle.units.specs.declared.Check.the-variants as check
 use Rattle.units.specs.Lists.{listed}
-use Rattle.units.proofs.Cond.{either-end, both-ends, past, taken}
+use Rattle.units.specs.declared.YesOrNo.{YesOrNo}
+use Rattle.units.specs.declared.YesOrNo.the-variants as yes-or-no
+use Rattle.units.proofs.Cond.{either-end, both-ends}
 use Rattle.units.proofs.Checks.{unless-fine, either-answer, answered}
 use Rattle.units.proofs.Never.{never}
 use Rattle.units.proofs.Lists.{length-listed, same-listed, drop-listed, append-listed}
 use Rattle.inflights.specs.State.{windowCheck, capCheck, isFull, deferredReached, emptyOf, Sound}
 use Rattle.inflights.specs.Ring.{placeOf, flightAt, flightsFrom, flights, leading}
-use Rattle.inflights.specs.Calls.{windowUnless, fullUnless, countUnless, madeWindow, withCap, setCapCheck, capped, fullness, counted, addCheck, oneMore, added, ringAfter, takenUp, takeUp, behind, freeTo, freedTo, freedFirst, nextCap, cleared, fromZero, rewind, rewound}
+use Rattle.inflights.specs.Calls.{windowUnless, countUnless, madeWindow, withCap, setCapCheck, capped, fullness, counted, addCheck, oneMore, added, ringAfter, takenUp, takeUp, behind, freeTo, freedTo, freedFirst, nextCap, cleared, fromZero, rewind, rewound}
 use Rattle.inflights.specs.Queue.{Frees, Reached, IsFull}
 use Rattle.inflights.specs.declared.Deferred.{Deferred}
 use Rattle.inflights.specs.declared.Deferred.the-variants.{Nothing, Cap}
 use Rattle.inflights.specs.declared.Inflights.{Inflights}
 use Rattle.inflights.specs.declared.Answer.{Answer}
 use Rattle.inflights.specs.declared.Answer.the-variants.{Now, Refused}
-use Rattle.inflights.specs.declared.Fullness.the-variants as full-is
 use Rattle.inflights.specs.declared.Counted.{Counted}
 use Rattle.inflights.specs.declared.Counted.the-variants as count-is
 use Rattle.inflights.proofs.Facts.{may-add}
@@ -154,19 +156,16 @@ not-by w n d false e h (inl a) = eqb-false _ _ e a
 not-by w n (Cap c) false e h (inr a) = let z : n < c = leb-false _ _ h in omega arith
 not-by w n Nothing false e h (inr a) = a
 
-told-full : (c : Check) (b : Bool) → fullUnless c b ≡ full-is.Full → b ≡ true
-told-full c b e = taken b (λ z. never cc) (answered full-is.Refused c (λ n z. never cc) e .1) .0
+told-full : (c : Check) (b : Bool) {t : Bool} → isUnless c b ≡ yes-or-no.Is t → b ≡ t
+told-full c b {t} e = let z : _≡_ {A = YesOrNo} (yes-or-no.Is b) (yes-or-no.Is t) = answered yes-or-no.Refused c (λ n z. never cc) e .1 in cc
 
-told-not-full : (c : Check) (b : Bool) → fullUnless c b ≡ full-is.NotFull → b ≡ false
-told-not-full c b e = past b (λ z. never cc) (answered full-is.Refused c (λ n z. never cc) e .1) .0
-
-pub full-means : (w : Inflights) (ring : List ℕ) → fullness w (length ring) ≡ full-is.Full → IsFull w (length (flights w ring))
+pub full-means : (w : Inflights) (ring : List ℕ) → fullness w (length ring) ≡ yes-or-no.Is true → IsFull w (length (flights w ring))
 unfolding fullness isFull
 full-means w ring e = subst (IsFull w) (sym (flights-length w ring)) (full-by w (w .count) (w .deferred) _ refl (told-full (windowCheck w (length ring)) (isFull w) e))
 
-pub not-full-means : (w : Inflights) (ring : List ℕ) → fullness w (length ring) ≡ full-is.NotFull → IsFull w (length (flights w ring)) → ⊥
+pub not-full-means : (w : Inflights) (ring : List ℕ) → fullness w (length ring) ≡ yes-or-no.Is false → IsFull w (length (flights w ring)) → ⊥
 unfolding fullness isFull
-not-full-means w ring e f = not-by w (w .count) (w .deferred) _ refl (told-not-full (windowCheck w (length ring)) (isFull w) e) (subst (IsFull w) (flights-length w ring) f)
+not-full-means w ring e f = not-by w (w .count) (w .deferred) _ refl (told-full (windowCheck w (length ring)) (isFull w) e) (subst (IsFull w) (flights-length w ring) f)
 
 told-count : (c : Check) (n : ℕ) {k : ℕ} → countUnless c n ≡ count-is.Is k → n ≡ k
 told-count c n {k} e = let z : _≡_ {A = Counted} (count-is.Is n) (count-is.Is k) = answered count-is.Refused c (λ m z. never cc) e .1 in cc

@@ -8,20 +8,20 @@ use native.Mathlib.Omega.{arith}
 use borrow.Author.Tests.{eqb-false, leb-true, leb-false}
 use lib.Dec.{leb, eqb}
 use lib.ListN.{length, getD}
-use Rattle.units.specs.Refusals.{brokenWindow}
+use Rattle.units.specs.Refusals.{brokenWindow, isUnless}
 use Rattle.units.specs.declared.Check.{Check}
 use Rattle.units.specs.declared.Check.the-variants.{Fine}
+use Rattle.units.specs.declared.YesOrNo.the-variants as yes-or-no
 use Rattle.units.proofs.Cond.{either-end, both-ends}
 use Rattle.units.proofs.Checks.{Refuses, fine-refuses, rule-refuses, both-refuse, handed-over}
 use Rattle.inflights.specs.State.{windowCheck, capCheck, isFull, roomCheck, emptyOf, Waits, Sound}
 use Rattle.inflights.specs.Ring.{placeOf, flights, leading}
-use Rattle.inflights.specs.Calls.{windowUnless, madeWindow, withCap, setCapCheck, capped, addCheck, oneMore, added, ringAfter, takenUp, takeUp, freeTo, freedTo, freedFirst, capOnEmpty, nextCap, cleared, rewind, rewound, fullUnless, countUnless, fullness, counted}
+use Rattle.inflights.specs.Calls.{windowUnless, madeWindow, withCap, setCapCheck, capped, addCheck, oneMore, added, ringAfter, takenUp, takeUp, freeTo, freedTo, freedFirst, capOnEmpty, nextCap, cleared, rewind, rewound, countUnless, fullness, counted}
 use Rattle.inflights.specs.Queue.{NeverBroken}
 use Rattle.inflights.specs.declared.Deferred.{Deferred}
 use Rattle.inflights.specs.declared.Deferred.the-variants.{Nothing, Cap}
 use Rattle.inflights.specs.declared.Inflights.{Inflights}
 use Rattle.inflights.specs.declared.Answer.the-variants as answer
-use Rattle.inflights.specs.declared.Fullness.the-variants as full-is
 use Rattle.inflights.specs.declared.Counted.the-variants as count-is
 use Rattle.inflights.proofs.Facts.{window-sound, sound-window, cap-fits, may-add, may-set-cap}
 use Rattle.inflights.proofs.Places.{place-in, place-zero}
@@ -35,8 +35,8 @@ Other n = n ≢ brokenWindow
 window-not : (c : Check) (u : Inflights) → Refuses Other c → windowUnless c u ≢ answer.Refused brokenWindow
 window-not c u h e = h brokenWindow (handed-over answer.Refused c (λ z. cc) (λ m z. cc) e) refl
 
-full-not : (c : Check) (b : Bool) → Refuses Other c → fullUnless c b ≢ full-is.Refused brokenWindow
-full-not c b h e = h brokenWindow (handed-over full-is.Refused c (both-ends (λ x. x ≡ full-is.Refused brokenWindow → _≡_ {A = ℕ} 0 1) b (λ z. cc) (λ z. cc)) (λ m z. cc) e) refl
+full-not : (c : Check) (b : Bool) → Refuses Other c → isUnless c b ≢ yes-or-no.Refused brokenWindow
+full-not c b h e = h brokenWindow (handed-over yes-or-no.Refused c (λ z. cc) (λ m z. cc) e) refl
 
 count-not : (c : Check) (n : ℕ) → Refuses Other c → countUnless c n ≢ count-is.Refused brokenWindow
 count-not c n h e = h brokenWindow (handed-over count-is.Refused c (λ z. cc) (λ m z. cc) e) refl

@@ -1,11 +1,12 @@
 -- THE PROMISES: what each call answers. A reader must know: an answer is the first refusal of the call's checks, in order (13 before 7 and 11), else the new window; `ringAfter` is the ring that `add` leaves, and no other call can write it.
 use Prim.Native.Nat.{ℕ, _+_, _-_}
-use mathlib.Core.Bool.{Bool, cond}
+use mathlib.Core.Bool.{cond}
 use mathlib.Core.List.{List}
 use lib.ListN.{length, getD, set}
 use lib.Dec.{leb, eqb}
-use Rattle.units.specs.Refusals.{bothChecks, unless}
+use Rattle.units.specs.Refusals.{bothChecks, unless, isUnless}
 use Rattle.units.specs.declared.Check.{Check}
+use Rattle.units.specs.declared.YesOrNo.{YesOrNo}
 use Rattle.inflights.specs.State.{windowCheck, capCheck, roomCheck, isFull, emptyOf}
 use Rattle.inflights.specs.Ring.{placeOf, flights, leading}
 use Rattle.inflights.specs.declared.Deferred.{Deferred}
@@ -13,18 +14,12 @@ use Rattle.inflights.specs.declared.Deferred.the-variants.{Nothing, Cap}
 use Rattle.inflights.specs.declared.Inflights.{Inflights}
 use Rattle.inflights.specs.declared.Answer.{Answer}
 use Rattle.inflights.specs.declared.Answer.the-variants as answer
-use Rattle.inflights.specs.declared.Fullness.{Fullness}
-use Rattle.inflights.specs.declared.Fullness.the-variants as fullness-is
 use Rattle.inflights.specs.declared.Counted.{Counted}
 use Rattle.inflights.specs.declared.Counted.the-variants as count-is
 
 -- Document 01's values for each case of an answer with a window: "Every refusal returns its number alone and changes nothing."
 abbrev pub windowUnless : Check → Inflights → Answer
 windowUnless k w = unless answer.Refused k (answer.Now w)
-
--- Document 01's values for each case of the answer of `full`: the refusal's number alone, or whether it is full.
-abbrev pub fullUnless : Check → Bool → Fullness
-fullUnless k b = unless fullness-is.Refused k (cond b fullness-is.Full fullness-is.NotFull)
 
 -- Document 01's values for each case of the answer of `count`: the refusal's number alone, or the count.
 abbrev pub countUnless : Check → ℕ → Counted
@@ -54,8 +49,8 @@ unfoldable pub capped : Inflights → ℕ → ℕ → Answer
 capped w n cap = windowUnless (setCapCheck w n cap) (withCap w cap)
 
 -- THE PROMISE of `full`: "count = cap, or a deferred cap exists and count is at least that".
-unfoldable pub fullness : Inflights → ℕ → Fullness
-fullness w n = fullUnless (windowCheck w n) (isFull w)
+unfoldable pub fullness : Inflights → ℕ → YesOrNo
+fullness w n = isUnless (windowCheck w n) (isFull w)
 
 -- THE PROMISE of `count`.
 unfoldable pub counted : Inflights → ℕ → Counted

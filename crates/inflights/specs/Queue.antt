@@ -6,12 +6,12 @@ use mathlib.Core.List.{List, [], _∷_, _++_}
 use lib.ListN.{length}
 use Rattle.units.specs.Refusals.{brokenWindow}
 use Rattle.units.specs.Lists.{Each}
+use Rattle.units.specs.declared.YesOrNo.the-variants as yes-or-no
 use Rattle.inflights.specs.Calls.{capped, fullness, counted, added, freedTo, freedFirst, cleared, rewound}
 use Rattle.inflights.specs.declared.Deferred.{Deferred}
 use Rattle.inflights.specs.declared.Deferred.the-variants.{Nothing, Cap}
 use Rattle.inflights.specs.declared.Inflights.{Inflights}
 use Rattle.inflights.specs.declared.Answer.the-variants.{Refused}
-use Rattle.inflights.specs.declared.Fullness.the-variants as full-is
 use Rattle.inflights.specs.declared.Counted.the-variants as count-is
 
 -- Every flight of a list is at most `to`.
@@ -41,7 +41,7 @@ IsFull w count = (count ≡ w .cap) ⊎ Reached (w .deferred) count
 
 -- No call on this ring refuses the window with 13: "window state broken".
 pub record NeverBroken (w : Inflights) (ring : List ℕ) : Type 0 where
-  pub full : fullness w (length ring) ≢ full-is.Refused brokenWindow
+  pub full : fullness w (length ring) ≢ yes-or-no.Refused brokenWindow
   pub count : counted w (length ring) ≢ count-is.Refused brokenWindow
   pub set-cap : (cap : ℕ) → capped w (length ring) cap ≢ Refused brokenWindow
   pub add : added w (length ring) ≢ Refused brokenWindow

@@ -17,6 +17,7 @@ use crate::state::is_full;
 use crate::state::next_cap;
 use crate::state::with_cap;
 use units::Check;
+use units::YesOrNo;
 ghost use mathlib.Core.Path.{_≡_};
 ghost use lib.ListN.{length};
 ghost use Rattle.inflights.specs.Calls.{madeWindow, capped, fullness, counted, added, ringAfter, freedTo, freedFirst, cleared, rewound};
@@ -41,12 +42,6 @@ pub struct Inflights {
 // What a call that changes the window answers: the window as it is now, or a refusal.
 pub enum Answer {
     Now(Inflights),
-    Refused(u64),
-}
-
-pub enum Fullness {
-    Full,
-    NotFull,
     Refused(u64),
 }
 
@@ -85,17 +80,14 @@ impl Inflights {
     }
 
     // Whether no flight can be added.
-    pub fn full(self, ring: &[u64]) -> Fullness
+    pub fn full(self, ring: &[u64]) -> YesOrNo
         ensures { λ r. ⌜ r ≡ fullness self (length (now (ring .entry))) ⌝ }
     {
         let check = checked(self, ring.len());
         let Check::Fine = check else {
-            return Fullness::Refused(check.refusal());
+            return YesOrNo::Refused(check.refusal());
         };
-        if is_full(self) {
-            return Fullness::Full;
-        }
-        Fullness::NotFull
+        YesOrNo::Is(is_full(self))
     }
 
     // Adds a flight behind the last one: the only call that writes a word.

@@ -10,6 +10,7 @@ use borrow.Author.Tests.{leb-true, leb-false, le-leb}
 use Rattle.units.specs.declared.Index.{Index}
 use Rattle.units.specs.declared.Term.{Term}
 use Rattle.units.specs.Units.{indexOf, termOf}
+use Rattle.units.specs.declared.YesOrNo.the-variants as yes-or-no
 use Rattle.units.proofs.Cond.{either-end, both-ends, past}
 use Rattle.units.proofs.Never.{never}
 use Rattle.units.proofs.Numbers.{below-or-not}
@@ -18,7 +19,6 @@ use Rattle.raft_log.specs.declared.Log.{Log}
 use Rattle.raft_log.specs.declared.Looked.the-variants as looked
 use Rattle.raft_log.specs.declared.Placed.the-variants as placed
 use Rattle.raft_log.specs.declared.Info.the-variants as info
-use Rattle.raft_log.specs.declared.Told.the-variants as told
 use Rattle.raft_log.specs.declared.ByTerm.the-variants as byterm
 use Rattle.raft_log.specs.State.{Good, broken, lastOf, termAt}
 use Rattle.raft_log.specs.Look.{lookTerm, firstIndex, lastIndex, lastTerm, commitInfo, isUpToDate, lastDown, atMost, foundAt, byTermIn, findConflictByTerm}
@@ -107,6 +107,6 @@ module _ (l : Log) (settled pending : List ℕ) (good : Good l settled pending) 
         let q : termOf (termAt l settled pending down) ≡ u = cc in
         rw (sym p, sym q) found-below
 
-  pub up-to-date-view : (i t : ℕ) → isUpToDate l settled pending i t ≡ told.Is (ltb (term-of (view-of l settled pending) (last (view-of l settled pending))) t || (eqb t (term-of (view-of l settled pending) (last (view-of l settled pending))) && leb (last (view-of l settled pending)) i))
+  pub up-to-date-view : (i t : ℕ) → isUpToDate l settled pending i t ≡ yes-or-no.Is (ltb (term-of (view-of l settled pending) (last (view-of l settled pending))) t || (eqb t (term-of (view-of l settled pending) (last (view-of l settled pending))) && leb (last (view-of l settled pending)) i))
   unfolding isUpToDate
   up-to-date-view i t = rw (sound, held-term l settled pending good (lastOf l), view-last l settled pending good)

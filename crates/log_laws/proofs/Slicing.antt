@@ -10,13 +10,13 @@ use borrow.Author.Tests.{eqb-true, eqb-false, ltb-true, ltb-false, leb-true, leb
 use Rattle.units.specs.Units.{indexOf, wordMax}
 use Rattle.units.specs.Refusals.{brokenState}
 use Rattle.units.specs.declared.Index.{Index}
+use Rattle.units.specs.declared.YesOrNo.the-variants as yes-or-no
 use Rattle.units.proofs.Cond.{either-end}
 use Rattle.units.proofs.Numbers.{below-or-not}
 use Rattle.rules.specs.Log.{Log as Abstract, last}
 use Rattle.raft_log.specs.declared.Log.{Log}
 use Rattle.raft_log.specs.declared.Bounds.{Bounds}
 use Rattle.raft_log.specs.declared.Bounds.the-variants as bounds
-use Rattle.raft_log.specs.declared.Told.the-variants as told
 use Rattle.raft_log.specs.State.{Good, broken, lastOf}
 use Rattle.raft_log.specs.Slice.{inStore, sliceIn, sliceBounds, entriesBounds, nextLow, nextHigh, hasNext, hasNextEntriesSince, nextEntriesBoundsSince, storePart, partOf}
 use Rattle.log_laws.specs.View.{storeEntry, view-of}
@@ -100,7 +100,7 @@ module _ (l : Log) (settled pending : List ℕ) where
 
   module _ (s : ℕ) where
     abbrev says-no : Type 0
-    says-no = hasNextEntriesSince l settled pending s ≡ told.Is false
+    says-no = hasNextEntriesSince l settled pending s ≡ yes-or-no.Is false
 
     -- 01: "`next_entries_since` gives that range as a slice, or nothing".
     pub next-gives : Gives l settled pending (nextLow l s) (nextHigh l) says-no (nextEntriesBoundsSince l settled pending s)
@@ -127,7 +127,7 @@ module _ (l : Log) (settled pending : List ℕ) where
 
     pub next-empty : (s : ℕ) → says-no s → nextEntriesBoundsSince l settled pending s ≡ bounds.Empty
     unfolding hasNextEntriesSince
-    next-empty s h = next-none l settled pending s (good-whole l settled pending good) (let no : told.Is (hasNext l s) ≡ told.Is false = rw (good-whole l settled pending good) at h in cc)
+    next-empty s h = next-none l settled pending s (good-whole l settled pending good) (let no : yes-or-no.Is (hasNext l s) ≡ yes-or-no.Is false = rw (good-whole l settled pending good) at h in cc)
 
     next-rule : (s : ℕ) → hasNext l s ≡ ltb (nextLow l s) (nextHigh l)
     next-rule s =
@@ -136,7 +136,7 @@ module _ (l : Log) (settled pending : List ℕ) where
         (below-or-not s wordMax)
 
     -- 01, `has_next_entries_since(s)`: "min(committed, persisted) + 1 > max(s + 1, start + 1)". That the answer is no for s = u64::MAX follows from the limit of indices.
-    pub has-next-rule : (s : ℕ) → hasNextEntriesSince l settled pending s ≡ told.Is (ltb (nextLow l s) (nextHigh l))
+    pub has-next-rule : (s : ℕ) → hasNextEntriesSince l settled pending s ≡ yes-or-no.Is (ltb (nextLow l s) (nextHigh l))
     unfolding hasNextEntriesSince
     has-next-rule s = rw (good-whole l settled pending good, next-rule s)
 

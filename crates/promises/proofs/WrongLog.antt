@@ -7,8 +7,8 @@ use Rattle.raft_log.specs.declared.Extended.{Extended}
 use Rattle.raft_log.specs.declared.Decided.{Decided}
 use Rattle.raft_log.specs.declared.Bounds.{Bounds}
 use Rattle.leader.specs.Leader.{leaderCommit}
-use Rattle.exports.specs.Words.{Outcome}
-use Rattle.exports.specs.Reads.{lookedLeaves, placedLeaves, toldLeaves, infoLeaves, byTermLeaves, boundsLeaves}
+use Rattle.exports.specs.Words.{Outcome, yesOrNoLeaves}
+use Rattle.exports.specs.Reads.{lookedLeaves, placedLeaves, infoLeaves, byTermLeaves, boundsLeaves}
 use Rattle.exports.specs.LogCalls.{appendedLeaves, extendedLeaves, changedLeaves, decidedLeaves}
 use Rattle.promises.specs.Cases.{logA, settledA, pendingA, message}
 use Rattle.promises.specs.WrongLog.{WrongLog, WrongEnginesLog}
@@ -42,8 +42,8 @@ wrong-log = record {
   last-term-no-records = apart-by lookedLeaves refl;
   commit-info-last-term = apart-by infoLeaves refl;
   commit-info-applied = apart-by infoLeaves refl;
-  is-up-to-date-shorter = apart-by toldLeaves refl;
-  is-up-to-date-equal = apart-by toldLeaves refl;
+  is-up-to-date-shorter = apart-by yesOrNoLeaves refl;
+  is-up-to-date-equal = apart-by yesOrNoLeaves refl;
   find-conflict-by-term-first = apart-by byTermLeaves refl;
   find-conflict-by-term-beyond = apart-by byTermLeaves refl;
   find-conflict-by-term-absent = apart-by byTermLeaves refl;
@@ -77,8 +77,8 @@ wrong-log = record {
   entries-bounds-from-first = apart-as bounds refl;
   entries-from-first = apart-as asStore refl;
   entries-without-last = apart-as asStore refl;
-  has-next-entries-since-not-persisted = apart-by toldLeaves refl;
-  has-next-entries-since-wraps = apart-by toldLeaves refl;
+  has-next-entries-since-not-persisted = apart-by yesOrNoLeaves refl;
+  has-next-entries-since-wraps = apart-by yesOrNoLeaves refl;
   next-entries-bounds-since-itself = apart-as bounds refl;
   next-entries-bounds-since-uncommitted = apart-as bounds refl;
   next-entries-since-itself = apart-as asStore refl;

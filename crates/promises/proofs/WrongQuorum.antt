@@ -9,8 +9,8 @@ use Rattle.quorum.specs.Joint.{oneSet}
 use Rattle.quorum.specs.declared.rows.Ack.{Ack}
 use Rattle.quorum.specs.declared.rows.Ack.the-variants as ack
 use Rattle.quorum.specs.declared.rows.Vote.the-variants.{Yes, No}
-use Rattle.exports.specs.Words.{flagWord}
-use Rattle.exports.specs.QuorumCalls.{resultWord, committedLeaves, verdictLeaves, answerLeaves}
+use Rattle.exports.specs.Words.{flagWord, yesOrNoLeaves}
+use Rattle.exports.specs.QuorumCalls.{resultWord, committedLeaves, verdictLeaves}
 use Rattle.promises.specs.Cases.{votersFrom, threeVoters, acking, voting}
 use Rattle.promises.specs.WrongQuorum.{WrongQuorum, WrongEnginesQuorum}
 use Rattle.promises.proofs.Apart.{quorum-promises, apart, apart-by}
@@ -57,10 +57,10 @@ wrong-quorum = record {
   joint-clear-words = apart (λ c. getD (c .outgoing .ids) 0 0) refl;
   joint-checked-outgoing = apart refusalOf refl;
   joint-checked-in-both = apart refusalOf refl;
-  joint-is-singleton-outgoing = apart-by answerLeaves refl;
-  joint-is-singleton-repeated = apart-by answerLeaves refl;
-  joint-contains-outgoing = apart-by answerLeaves refl;
-  joint-contains-unused = apart-by answerLeaves refl;
+  joint-is-singleton-outgoing = apart-by yesOrNoLeaves refl;
+  joint-is-singleton-repeated = apart-by yesOrNoLeaves refl;
+  joint-contains-outgoing = apart-by yesOrNoLeaves refl;
+  joint-contains-unused = apart-by yesOrNoLeaves refl;
   joint-ids-twice = apart (λ l. l .count) refl;
   joint-ids-order = apart (λ l. getD (l .ids) 0 0) refl;
   joint-committed-index-larger = apart-by committedLeaves refl;

@@ -6,7 +6,8 @@ use lib.ListN.{getD}
 use Rattle.rules.specs.Count.{count}
 use Rattle.inflights.specs.declared.Deferred.{Deferred}
 use Rattle.inflights.specs.declared.Deferred.the-variants.{Nothing, Cap}
-use Rattle.exports.specs.WindowCalls.{windowLeaves, fullnessLeaves, countedLeaves}
+use Rattle.exports.specs.Words.{yesOrNoLeaves}
+use Rattle.exports.specs.WindowCalls.{windowLeaves, countedLeaves}
 use Rattle.promises.specs.Cases.{old}
 use Rattle.promises.specs.WrongWindow.{empty, three, largeFirst, WrongWindow, WrongEnginesWindow}
 use Rattle.promises.proofs.Apart.{window-promises, apart, apart-by}
@@ -27,8 +28,8 @@ wrong-window = record {
   new-whole-ring = apart-by windowLeaves refl;
   set-cap-at-once = apart-by windowLeaves refl;
   set-cap-seven-first = apart-by windowLeaves refl;
-  full-deferred = apart-by fullnessLeaves refl;
-  full-early = apart-by fullnessLeaves refl;
+  full-deferred = apart-by yesOrNoLeaves refl;
+  full-early = apart-by yesOrNoLeaves refl;
   add-not-written = λ both. apart firstWord refl (both .1);
   add-refused-written = λ both. apart firstWord refl (both .1);
   add-past-deferred = apart-by windowLeaves refl;

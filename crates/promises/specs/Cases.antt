@@ -6,6 +6,7 @@ use mathlib.Core.List.{List, [], _∷_, _++_}
 use Rattle.units.specs.Units.{indexOf, termOf}
 use Rattle.units.specs.Refusals.{outsideLog, mismatch, cutsCommitted, brokenSet}
 use Rattle.units.specs.Lists.{listed}
+use Rattle.units.specs.declared.YesOrNo.the-variants as yes-or-no
 use Rattle.raft_log.specs.declared.Log.{Log}
 use Rattle.raft_log.specs.declared.Looked.the-variants as looked
 use Rattle.raft_log.specs.declared.ByTerm.{ByTerm}
@@ -16,7 +17,7 @@ use Rattle.two_ends.specs.Sanity.{log-with}
 use Rattle.raft_log.specs.Append.{maybeAppend, maybeAppendStore}
 use Rattle.raft_log.specs.Look.{lookTerm, findConflictByTerm}
 use Rattle.raft_log.specs.Setup.{fresh}
-use mathlib.Core.Bool.{false}
+use mathlib.Core.Bool.{true, false}
 use lib.ListN.{replicate}
 use Rattle.quorum.specs.Limits.{voterLimit, rowLimit}
 use Rattle.quorum.specs.Voters.{setOf, noVoters}
@@ -38,7 +39,6 @@ use Rattle.inflights.specs.declared.Deferred.{Deferred}
 use Rattle.inflights.specs.declared.Deferred.the-variants.{Nothing, Cap}
 use Rattle.inflights.specs.declared.Inflights.{Inflights}
 use Rattle.inflights.specs.declared.Answer.the-variants.{Now}
-use Rattle.inflights.specs.declared.Fullness.the-variants.{Full, NotFull}
 
 -- ---- the log
 
@@ -178,7 +178,7 @@ pub record DocumentCases : Type 0 where
   pub then-6 : (added (window 0 2 Nothing) 4 ≡ Now (window 0 3 Nothing)) × (ringAfter (window 0 2 Nothing) (5 ∷ 5 ∷ 9 ∷ 9 ∷ []) 6 ≡ flown)
   pub flights-5-5-6 : flights (window 0 3 Nothing) flown ≡ 5 ∷ 5 ∷ 6 ∷ []
   pub cap-2-defers : capped (window 0 3 Nothing) 4 2 ≡ Now (window 0 3 (Cap 2))
-  pub then-full : fullness (window 0 3 (Cap 2)) 4 ≡ Full
+  pub then-full : fullness (window 0 3 (Cap 2)) 4 ≡ yes-or-no.Is true
   pub free-to-5 : freedTo (window 0 3 (Cap 2)) flown 5 ≡ Now (window 2 1 (Cap 2))
   pub leaves-6 : flights (window 2 1 (Cap 2)) flown ≡ 6 ∷ []
-  pub then-not-full : fullness (window 2 1 (Cap 2)) 4 ≡ NotFull
+  pub then-not-full : fullness (window 2 1 (Cap 2)) 4 ≡ yes-or-no.Is false

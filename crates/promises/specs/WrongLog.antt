@@ -8,10 +8,10 @@ use mathlib.Core.List.{List, [], _∷_, _++_}
 use lib.Dec.{eqb}
 use Rattle.units.specs.Units.{wordMax, indexOf, termOf}
 use Rattle.units.specs.Refusals.{brokenState, misnumberedRun, zeroTerm, outsideLog, mismatch, cutsCommitted, noRoom, outOfRange, brokenSet}
+use Rattle.units.specs.declared.YesOrNo.the-variants as yes-or-no
 use Rattle.raft_log.specs.declared.Log.{Log}
 use Rattle.raft_log.specs.declared.Looked.the-variants as looked
 use Rattle.raft_log.specs.declared.Placed.the-variants as placed
-use Rattle.raft_log.specs.declared.Told.the-variants as told
 use Rattle.raft_log.specs.declared.Info.the-variants as info
 use Rattle.raft_log.specs.declared.ByTerm.the-variants as byterm
 use Rattle.raft_log.specs.declared.Appended.{Appended}
@@ -95,9 +95,9 @@ pub record WrongLog : Type 0 where
   -- `commit_info` of A: applied and its term.
   pub commit-info-applied : onA commitInfo ≢ info.At (indexOf 1) (termOf 1)
   -- `is_up_to_date(4, 3)` of A: yes for a shorter log of the same last term.
-  pub is-up-to-date-shorter : onA isUpToDate 4 3 ≢ told.Is true
+  pub is-up-to-date-shorter : onA isUpToDate 4 3 ≢ yes-or-no.Is true
   -- `is_up_to_date(5, 3)` of A: no for one that is as long.
-  pub is-up-to-date-equal : onA isUpToDate 5 3 ≢ told.Is false
+  pub is-up-to-date-equal : onA isUpToDate 5 3 ≢ yes-or-no.Is false
   -- `find_conflict_by_term(12, 3)`, start (10,4), where no record has a term so low: the first index, as the crate's comment says.
   pub find-conflict-by-term-first : on10 findConflictByTerm 12 3 ≢ found 11 4
   -- `find_conflict_by_term(6, 9)` of A: a term beyond the last.
@@ -165,9 +165,9 @@ pub record WrongLog : Type 0 where
   -- `entries(4)` of A: without the last record.
   pub entries-without-last : wordsOfA (onA entriesBounds 4) ≢ 2 ∷ 4 ∷ []
   -- `has_next_entries_since(3)` of A with all committed: yes for record 4, which is not persisted.
-  pub has-next-entries-since-not-persisted : hasNextEntriesSince allCommittedA settledA pendingA 3 ≢ told.Is true
+  pub has-next-entries-since-not-persisted : hasNextEntriesSince allCommittedA settledA pendingA 3 ≢ yes-or-no.Is true
   -- `has_next_entries_since(u64::MAX)` of A: yes, as s + 1 wraps to 0.
-  pub has-next-entries-since-wraps : onA hasNextEntriesSince wordMax ≢ told.Is true
+  pub has-next-entries-since-wraps : onA hasNextEntriesSince wordMax ≢ yes-or-no.Is true
   -- `next_entries_bounds_since(1)` of A: from 1 itself on.
   pub next-entries-bounds-since-itself : onA nextEntriesBoundsSince 1 ≢ bounds.Settled (indexOf 1) (indexOf 3)
   -- The same: up to record 3, which is not committed.

@@ -10,6 +10,7 @@ use lib.Dec.{leb}
 use Rattle.units.specs.Units.{wordMax, indexLimit, indexOf, termOf}
 use Rattle.units.specs.Refusals.{brokenState, noRoom, brokenSet, refusalOf, bothChecks}
 use Rattle.units.specs.declared.Check.the-variants as check
+use Rattle.units.specs.declared.YesOrNo.the-variants as yes-or-no
 use Rattle.rules.specs.Count.{count}
 use Rattle.rules.specs.Majority.{kth-largest, falling}
 use Rattle.quorum.specs.Limits.{voterLimit, rowLimit}
@@ -28,7 +29,6 @@ use Rattle.quorum.specs.declared.half.Half.{Half}
 use Rattle.quorum.specs.declared.majority.Voters.{Voters}
 use Rattle.quorum.specs.declared.majority.Made.{Made}
 use Rattle.quorum.specs.declared.joint.JointConfig.{JointConfig}
-use Rattle.quorum.specs.declared.joint.Answer.the-variants as answer
 use Rattle.quorum.specs.declared.rows.Ack.the-variants as ack
 use Rattle.quorum.specs.declared.rows.Vote.{Vote}
 use Rattle.quorum.specs.declared.rows.Vote.the-variants as vote
@@ -155,13 +155,13 @@ pub record WrongQuorum : Type 0 where
   -- 1, 2, 3 and 3, 4: 12, where an id may not stand in both halves. It is fine.
   pub joint-checked-in-both : configCheck (halves (votersFrom 1 3) (votersFrom 3 2)) ≢ check.Refused brokenSet
   -- 1 and 2: yes, the outgoing half not asked.
-  pub joint-is-singleton-outgoing : singleton (halves (votersFrom 1 1) (votersFrom 2 1)) ≢ answer.Is true
+  pub joint-is-singleton-outgoing : singleton (halves (votersFrom 1 1) (votersFrom 2 1)) ≢ yes-or-no.Is true
   -- 1, 1 and nobody: yes, the repeated id dropped. It is 12.
-  pub joint-is-singleton-repeated : singleton (oneSet (setOf (1 ∷ 1 ∷ []))) ≢ answer.Is true
+  pub joint-is-singleton-repeated : singleton (oneSet (setOf (1 ∷ 1 ∷ []))) ≢ yes-or-no.Is true
   -- 1, 2, 3 and 4, 5, asked for 4: no, the outgoing half not asked.
-  pub joint-contains-outgoing : containsOf threeAndTwo 4 ≢ answer.Is false
+  pub joint-contains-outgoing : containsOf threeAndTwo 4 ≢ yes-or-no.Is false
   -- 1, 2, 3 and 4, 5, asked for 0: yes, by an unused word.
-  pub joint-contains-unused : containsOf threeAndTwo 0 ≢ answer.Is true
+  pub joint-contains-unused : containsOf threeAndTwo 0 ≢ yes-or-no.Is true
   -- 1, 2, 3 and 3, 4: the 3 listed twice.
   pub joint-ids-twice : idsAnswer (halves (votersFrom 1 3) (votersFrom 3 2)) ≢ listed check.Fine (1 ∷ 2 ∷ 3 ∷ 3 ∷ 4 ∷ [])
   -- 4, 5 and 1, 2: one half behind the other, not in rising order.

@@ -2,11 +2,13 @@
 -- A reader must know: each line says that the call's promise is not the wrong answer, and holds by computing both sides (proofs/WrongWindow.antt). The ring has 4 words, and a window cap 4 where nothing else is said.
 use Prim.Native.Nat.{ℕ}
 use mathlib.Core.Path.{_≡_}
+use mathlib.Core.Bool.{true, false}
 use mathlib.Core.Logic.{_≢_}
 use mathlib.Core.List.{List, [], _∷_}
 use lib.ListN.{length}
 use lib.Dec.{leb}
 use Rattle.units.specs.Refusals.{noRoom, windowFull, brokenWindow}
+use Rattle.units.specs.declared.YesOrNo.the-variants as yes-or-no
 use Rattle.rules.specs.Count.{count}
 use Rattle.inflights.specs.State.{windowCheck, emptyOf}
 use Rattle.inflights.specs.Ring.{flights, leading}
@@ -16,7 +18,6 @@ use Rattle.inflights.specs.declared.Deferred.the-variants.{Nothing, Cap}
 use Rattle.inflights.specs.declared.Inflights.{Inflights}
 use Rattle.inflights.specs.declared.Answer.{Answer}
 use Rattle.inflights.specs.declared.Answer.the-variants.{Now, Refused}
-use Rattle.inflights.specs.declared.Fullness.the-variants.{Full, NotFull}
 use Rattle.inflights.specs.declared.Counted.the-variants.{Is}
 use Rattle.inflights.specs.declared.Step.{Step}
 use Rattle.promises.specs.Cases.{window, old, flown}
@@ -60,9 +61,9 @@ pub record WrongWindow : Type 0 where
   -- A broken window, cap 5: 7, for the cap that is handed in. It is 13.
   pub set-cap-seven-first : capped (broken 0 3) 4 5 ≢ Refused noRoom
   -- Two flights, cap 4, deferred 2: not full.
-  pub full-deferred : fullness (window 0 2 (Cap 2)) 4 ≢ NotFull
+  pub full-deferred : fullness (window 0 2 (Cap 2)) 4 ≢ yes-or-no.Is false
   -- Three flights, cap 4: full, one too early.
-  pub full-early : fullness three 4 ≢ Full
+  pub full-early : fullness three 4 ≢ yes-or-no.Is true
   -- 5 into an empty window: one flight counted, and the word not written.
   pub add-not-written : ¬ ((added empty 4 ≡ Now (window 0 1 Nothing)) × (ringAfter empty old 5 ≡ old))
   -- 5 into a full window: 11, and a word written.

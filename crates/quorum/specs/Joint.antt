@@ -1,12 +1,13 @@
 -- The joint configuration (joint.rs): two voter sets, incoming and outgoing. A reader must know: each question is asked of both halves, and a broken half or broken rows are refusal 12.
 use Prim.Native.Nat.{ℕ, _+_}
-use mathlib.Core.Bool.{Bool, _&&_, _||_, cond}
+use mathlib.Core.Bool.{_&&_, _||_, cond}
 use mathlib.Core.List.{List, [], _∷_, _++_}
 use lib.ListN.{length, take, set}
 use lib.Dec.{eqb}
-use Rattle.units.specs.Refusals.{bothChecks, unless}
+use Rattle.units.specs.Refusals.{bothChecks, unless, isUnless}
 use Rattle.units.specs.declared.Check.{Check}
 use Rattle.units.specs.declared.Check.the-variants as check
+use Rattle.units.specs.declared.YesOrNo.{YesOrNo}
 use Rattle.rules.specs.Majority.{falling}
 use Rattle.quorum.specs.Limits.{idLimit}
 use Rattle.quorum.specs.Ids.{has, padded}
@@ -19,8 +20,6 @@ use Rattle.quorum.specs.declared.Committed.{Committed}
 use Rattle.quorum.specs.declared.Verdict.{Verdict}
 use Rattle.quorum.specs.declared.majority.Voters.{Voters}
 use Rattle.quorum.specs.declared.joint.JointConfig.{JointConfig}
-use Rattle.quorum.specs.declared.joint.Answer.{Answer}
-use Rattle.quorum.specs.declared.joint.Answer.the-variants as answer
 use Rattle.quorum.specs.declared.joint.Ids.{Ids}
 use Rattle.quorum.specs.declared.rows.Peer.{Peer}
 use Rattle.quorum.specs.declared.rows.Rows.{Rows}
@@ -49,16 +48,12 @@ plainJointIndex c r = indexUnless (bothChecks (configCheck c) (plainCheck r)) (j
 unfoldable pub plainJointVerdict : JointConfig → Rows → Verdict
 plainJointVerdict c r = resultUnless (bothChecks (configCheck c) (plainCheck r)) (jointResult (numbersResult (plainValues r (c .incoming))) (numbersResult (plainValues r (c .outgoing))))
 
--- Document 01's values for each case of a yes-or-no answer.
-abbrev pub isUnless : Check → Bool → Answer
-isUnless k b = unless answer.Refused k (answer.Is b)
-
 -- THE PROMISE of `is_singleton`, which 01, Joint, names: one incoming voter, and nobody outgoing.
-abbrev pub singleton : JointConfig → Answer
+abbrev pub singleton : JointConfig → YesOrNo
 singleton c = isUnless (configCheck c) (eqb (c .outgoing .count) 0 && eqb (c .incoming .count) 1)
 
 -- THE PROMISE of `contains`, which 01, Joint, names: a voter of either half.
-abbrev pub containsOf : JointConfig → ℕ → Answer
+abbrev pub containsOf : JointConfig → ℕ → YesOrNo
 containsOf c id = isUnless (configCheck c) (has id (votersOf (c .incoming)) || has id (votersOf (c .outgoing)))
 
 -- A list that falls, turned round: each id at the end, where it is not there yet.

@@ -7,10 +7,11 @@ use mathlib.Core.Logic.{_↔_, _⊎_, ⊎-map, Iff·rfl, Iff·symm, Iff·trans, 
 use native.Mathlib.Omega.{arith}
 use lib.ListN.{length, getD}
 use Rattle.units.specs.Units.{wordMax, indexOf}
-use Rattle.units.specs.Refusals.{brokenSet, bothChecks, unless}
+use Rattle.units.specs.Refusals.{brokenSet, bothChecks, unless, isUnless}
 use Rattle.units.specs.declared.Index.{Index}
 use Rattle.units.specs.declared.Check.{Check}
 use Rattle.units.specs.declared.Check.the-variants as check
+use Rattle.units.specs.declared.YesOrNo.the-variants as yes-or-no
 use Rattle.units.proofs.Never.{never}
 use Rattle.rules.specs.Majority.{Commits}
 use Rattle.rules.proofs.Majority.{committed-commits, commits-committed}
@@ -20,7 +21,7 @@ use Rattle.quorum.specs.Voters.{votersOf, votersCheck}
 use Rattle.quorum.specs.Votes.{resultOf, jointResult}
 use Rattle.quorum.specs.Half.{halfIndex, joined}
 use Rattle.quorum.specs.Majority.{indexUnless, resultUnless, acksOf, votesOf, committedIndex, voteResult, matchIndex}
-use Rattle.quorum.specs.Joint.{oneSet, configCheck, jointIndex, jointVerdict, isUnless, singleton, containsOf, bothIds, listedUnless, idsAnswer}
+use Rattle.quorum.specs.Joint.{oneSet, configCheck, jointIndex, jointVerdict, singleton, containsOf, bothIds, listedUnless, idsAnswer}
 use Rattle.quorum.specs.declared.Committed.the-variants as answer
 use Rattle.quorum.specs.declared.Verdict.the-variants as verdict
 use Rattle.quorum.specs.declared.VoteResult.{VoteResult}
@@ -28,7 +29,6 @@ use Rattle.quorum.specs.declared.VoteResult.the-variants as result
 use Rattle.quorum.specs.declared.half.Half.{Half}
 use Rattle.quorum.specs.declared.majority.Voters.{Voters}
 use Rattle.quorum.specs.declared.joint.JointConfig.{JointConfig}
-use Rattle.quorum.specs.declared.joint.Answer.the-variants as is
 use Rattle.quorum.specs.declared.rows.Peer.{Peer}
 use Rattle.quorum_laws.specs.JointRule.{JointCommits, Wins, Loses}
 use Rattle.quorum_laws.specs.Questions.{Whole, JointWhole, Words, WordRows, NoVoters, JointWins, JointLoses}
@@ -191,8 +191,8 @@ module _ (v : Voters) (peers : List Peer) where
   one-set-vote = cc (one-set-check v, then-won (resultOf (votesOf peers v)))
 
 -- The other questions of a configuration read no rows, and refuse where a half is broken.
-is-refuses : (b : Bool) (k : Check) → OnlyTwelve k → (n : ℕ) → (isUnless k b ≡ is.Refused n) ↔ ((¬ (k ≡ check.Fine)) × (n ≡ brokenSet))
-is-refuses b = refused-by-twelve is.Refused (λ m n e. cc) (λ n e. cc)
+is-refuses : (b : Bool) (k : Check) → OnlyTwelve k → (n : ℕ) → (isUnless k b ≡ yes-or-no.Refused n) ↔ ((¬ (k ≡ check.Fine)) × (n ≡ brokenSet))
+is-refuses b = refused-by-twelve yes-or-no.Refused (λ m n e. cc) (λ n e. cc)
 
 -- (A list of ids stands beside its check.)
 list-check : (k : Check) (ids : List ℕ) → listedUnless k ids .check ≡ unless check.Refused k check.Fine
@@ -200,10 +200,10 @@ list-check check.Fine ids = refl
 list-check (check.Refused n) ids = refl
 
 module _ (c : JointConfig) where
-  pub singleton-refused : (n : ℕ) → (singleton c ≡ is.Refused n) ↔ ((¬ (configCheck c ≡ check.Fine)) × (n ≡ brokenSet))
+  pub singleton-refused : (n : ℕ) → (singleton c ≡ yes-or-no.Refused n) ↔ ((¬ (configCheck c ≡ check.Fine)) × (n ≡ brokenSet))
   singleton-refused n = is-refuses _ (configCheck c) (config-twelve c) n
 
-  pub contains-refused : (id n : ℕ) → (containsOf c id ≡ is.Refused n) ↔ ((¬ (configCheck c ≡ check.Fine)) × (n ≡ brokenSet))
+  pub contains-refused : (id n : ℕ) → (containsOf c id ≡ yes-or-no.Refused n) ↔ ((¬ (configCheck c ≡ check.Fine)) × (n ≡ brokenSet))
   contains-refused id n = is-refuses _ (configCheck c) (config-twelve c) n
 
   pub ids-refused : (n : ℕ) → (idsAnswer c .check ≡ check.Refused n) ↔ ((¬ (configCheck c ≡ check.Fine)) × (n ≡ brokenSet))

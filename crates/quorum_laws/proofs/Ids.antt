@@ -10,6 +10,7 @@ use lib.ListN.{length, take, length-append, length-take}
 use lib.Dec.{eqb, leb}
 use borrow.Author.Tests.{eqb-true, eq-eqb}
 use Rattle.units.specs.declared.Check.the-variants as check
+use Rattle.units.specs.declared.YesOrNo.the-variants as yes-or-no
 use Rattle.units.proofs.Cond.{either-end}
 use Rattle.units.proofs.Never.{never}
 use Rattle.units.proofs.Checks.{both-fine}
@@ -22,7 +23,6 @@ use Rattle.quorum.specs.Ids.{has}
 use Rattle.quorum.specs.Voters.{votersOf, votersCheck}
 use Rattle.quorum.specs.Joint.{configCheck, rising, bothIds, idsAnswer, containsOf}
 use Rattle.quorum.specs.declared.joint.JointConfig.{JointConfig}
-use Rattle.quorum.specs.declared.joint.Answer.the-variants as answer
 use Rattle.quorum_laws.specs.IdsRule.{Rising, ListsBoth}
 use Rattle.quorum_laws.proofs.Members.{has-append, has-falling}
 use Rattle.quorum.proofs.IdLaws.{has-none, has-cons}
@@ -142,5 +142,5 @@ module _ (c : JointConfig) (fine : configCheck c ≡ check.Fine) where
   pub ids-listed : take (idsAnswer c .count) (idsAnswer c .ids) ≡ bothIds c
   ids-listed = rw fine (take-padded idLimit (bothIds c) (length-both-ids c fine))
 
-  pub contains-listed : (id : ℕ) → containsOf c id ≡ answer.Is (has id (bothIds c))
+  pub contains-listed : (id : ℕ) → containsOf c id ≡ yes-or-no.Is (has id (bothIds c))
   contains-listed id = rw (fine, both-ids c .members id)

@@ -8,10 +8,10 @@ use lib.Dec.{leb}
 use borrow.Author.Tests.{lt-ltb, le-ltb, eq-eqb, ne-eqb}
 use Rattle.units.specs.Units.{indexOf, termOf}
 use Rattle.units.specs.Refusals.{brokenState}
+use Rattle.units.specs.declared.YesOrNo.the-variants as yes-or-no
 use Rattle.raft_log.specs.declared.Log.{Log}
 use Rattle.raft_log.specs.declared.Looked.the-variants as looked
 use Rattle.raft_log.specs.declared.Placed.the-variants as placed
-use Rattle.raft_log.specs.declared.Told.the-variants as told
 use Rattle.raft_log.specs.declared.Info.the-variants as info
 use Rattle.raft_log.specs.State.{lastOf, broken, termAt}
 use Rattle.raft_log.specs.Look.{lookTerm, firstIndex, lastIndex, lastTerm, isUpToDate, commitInfo}
@@ -34,7 +34,7 @@ module _ (l : Log) (settled pending : List ℕ) (h : broken l settled pending �
   unfolding lastTerm
   last-term-refused = simp h
 
-  pub up-to-date-refused : (i t : ℕ) → isUpToDate l settled pending i t ≡ told.Refused brokenState
+  pub up-to-date-refused : (i t : ℕ) → isUpToDate l settled pending i t ≡ yes-or-no.Refused brokenState
   unfolding isUpToDate
   up-to-date-refused i t = simp h
 
@@ -69,14 +69,14 @@ module _ (l : Log) (settled pending : List ℕ) (h : broken l settled pending �
     last-term-is = simp (h, last-term)
 
     module _ (i t : ℕ) where
-      pub later-term : term < t → isUpToDate l settled pending i t ≡ told.Is true
+      pub later-term : term < t → isUpToDate l settled pending i t ≡ yes-or-no.Is true
       unfolding isUpToDate
       later-term k = simp (h, last-term, lt-ltb _ _ k)
 
-      pub earlier-term : t ≤ term → (t ≡ term → ⊥) → isUpToDate l settled pending i t ≡ told.Is false
+      pub earlier-term : t ≤ term → (t ≡ term → ⊥) → isUpToDate l settled pending i t ≡ yes-or-no.Is false
       unfolding isUpToDate
       earlier-term k d = simp (h, last-term, le-ltb term t k, ne-eqb t term d)
 
-      pub same-term : t ≡ term → isUpToDate l settled pending i t ≡ told.Is (leb last i)
+      pub same-term : t ≡ term → isUpToDate l settled pending i t ≡ yes-or-no.Is (leb last i)
       unfolding isUpToDate
       same-term k = simp (h, last-term, le-ltb term t (omega arith), eq-eqb t term k, e)

@@ -5,6 +5,8 @@ use mathlib.Core.List.{List}
 use lib.Dec.{eqb, leb, ltb}
 use Rattle.units.specs.Units.{indexOf, termOf}
 use Rattle.units.specs.Refusals.{brokenState}
+use Rattle.units.specs.declared.YesOrNo.{YesOrNo}
+use Rattle.units.specs.declared.YesOrNo.the-variants as yes-or-no
 use Rattle.raft_log.specs.declared.Log.{Log}
 use Rattle.raft_log.specs.declared.Looked.{Looked}
 use Rattle.raft_log.specs.declared.Looked.the-variants as looked
@@ -12,8 +14,6 @@ use Rattle.raft_log.specs.declared.Placed.{Placed}
 use Rattle.raft_log.specs.declared.Placed.the-variants as placed
 use Rattle.raft_log.specs.declared.ByTerm.{ByTerm}
 use Rattle.raft_log.specs.declared.ByTerm.the-variants as byterm
-use Rattle.raft_log.specs.declared.Told.{Told}
-use Rattle.raft_log.specs.declared.Told.the-variants as told
 use Rattle.raft_log.specs.declared.Info.{Info}
 use Rattle.raft_log.specs.declared.Info.the-variants as info
 use Rattle.raft_log.specs.State.{lastOf, broken, termAt}
@@ -61,8 +61,8 @@ abbrev pub upToDate : Log → List ℕ → List ℕ → ℕ → ℕ → Bool
 upToDate l settled pending i t = ltb (termAt l settled pending (lastOf l)) t || (eqb t (termAt l settled pending (lastOf l)) && leb (lastOf l) i)
 
 -- THE PROMISE of `is_up_to_date(i, t)`.
-unfoldable pub isUpToDate : Log → List ℕ → List ℕ → ℕ → ℕ → Told
-isUpToDate l settled pending i t = cond (broken l settled pending) (told.Refused brokenState) (told.Is (upToDate l settled pending i t))
+unfoldable pub isUpToDate : Log → List ℕ → List ℕ → ℕ → ℕ → YesOrNo
+isUpToDate l settled pending i t = cond (broken l settled pending) (yes-or-no.Refused brokenState) (yes-or-no.Is (upToDate l settled pending i t))
 
 -- THE PROMISE of `commit_info`: "committed and its term".
 unfoldable pub commitInfo : Log → List ℕ → List ℕ → Info

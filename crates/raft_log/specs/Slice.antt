@@ -6,11 +6,11 @@ use lib.Dec.{eqb, leb, ltb}
 use lib.ListN.{take, drop}
 use Rattle.units.specs.Units.{indexOf, wordMax}
 use Rattle.units.specs.Refusals.{brokenState, outOfRange, belowFirst}
+use Rattle.units.specs.declared.YesOrNo.{YesOrNo}
+use Rattle.units.specs.declared.YesOrNo.the-variants as yes-or-no
 use Rattle.raft_log.specs.declared.Log.{Log}
 use Rattle.raft_log.specs.declared.Bounds.{Bounds}
 use Rattle.raft_log.specs.declared.Bounds.the-variants as bounds
-use Rattle.raft_log.specs.declared.Told.{Told}
-use Rattle.raft_log.specs.declared.Told.the-variants as told
 use Rattle.raft_log.specs.Words.{recordWords, room}
 use Rattle.raft_log.specs.State.{lastOf, broken}
 
@@ -50,8 +50,8 @@ unfoldable pub hasNext : Log → ℕ → Bool
 hasNext l s = ltb s wordMax && ltb (nextLow l s) (nextHigh l)
 
 -- THE PROMISE of `has_next_entries_since(s)`.
-unfoldable pub hasNextEntriesSince : Log → List ℕ → List ℕ → ℕ → Told
-hasNextEntriesSince l settled pending s = cond (broken l settled pending) (told.Refused brokenState) (told.Is (hasNext l s))
+unfoldable pub hasNextEntriesSince : Log → List ℕ → List ℕ → ℕ → YesOrNo
+hasNextEntriesSince l settled pending s = cond (broken l settled pending) (yes-or-no.Refused brokenState) (yes-or-no.Is (hasNext l s))
 
 -- THE PROMISE of `next_entries_bounds_since(s)`: "gives that range as a slice, or nothing".
 unfoldable pub nextEntriesBoundsSince : Log → List ℕ → List ℕ → ℕ → Bounds

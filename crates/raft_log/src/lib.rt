@@ -13,6 +13,7 @@ use state::state_ok;
 use state::term_at;
 use units::Index;
 use units::Term;
+use units::YesOrNo;
 use units::refusal::BROKEN_STATE;
 use units::refusal::NO_ROOM;
 use units::refusal::NOT_PENDING;
@@ -75,11 +76,6 @@ pub enum Looked {
 
 pub enum Placed {
     At(Index),
-    Refused(u64),
-}
-
-pub enum Told {
-    Is(bool),
     Refused(u64),
 }
 
@@ -193,21 +189,21 @@ impl Log {
     }
 
     // Whether a log that ends with (i, t) is at least as up to date as this one.
-    pub fn is_up_to_date(self, settled: &[u64], pending: &[u64], i: Index, t: Term) -> Told
+    pub fn is_up_to_date(self, settled: &[u64], pending: &[u64], i: Index, t: Term) -> YesOrNo
         ensures { λ r. ⌜ r ≡ isUpToDate self (now (settled .entry)) (now (pending .entry)) (i .0) (t .0) ⌝ }
     {
         if !state_ok(self, settled, pending) {
-            return Told::Refused(BROKEN_STATE);
+            return YesOrNo::Refused(BROKEN_STATE);
         }
         let last = last_of(self, settled, pending);
         let term = term_at(self, settled, pending, last);
         if term < t.0 {
-            return Told::Is(true);
+            return YesOrNo::Is(true);
         }
         if t.0 != term {
-            return Told::Is(false);
+            return YesOrNo::Is(false);
         }
-        Told::Is(last <= i.0)
+        YesOrNo::Is(last <= i.0)
     }
 
     // The largest index at most i whose term is at most t, with its term.
@@ -422,13 +418,13 @@ impl Log {
     }
 
     // Whether records after s are committed and persisted.
-    pub fn has_next_entries_since(self, settled: &[u64], pending: &[u64], s: Index) -> Told
+    pub fn has_next_entries_since(self, settled: &[u64], pending: &[u64], s: Index) -> YesOrNo
         ensures { λ r. ⌜ r ≡ hasNextEntriesSince self (now (settled .entry)) (now (pending .entry)) (s .0) ⌝ }
     {
         if !state_ok(self, settled, pending) {
-            return Told::Refused(BROKEN_STATE);
+            return YesOrNo::Refused(BROKEN_STATE);
         }
-        Told::Is(reads::has_next(self, settled, pending, s.0))
+        YesOrNo::Is(reads::has_next(self, settled, pending, s.0))
     }
 
     // Those records, as far as one store holds them.

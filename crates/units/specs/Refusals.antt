@@ -3,6 +3,8 @@ use Prim.Native.Nat.{ℕ}
 use mathlib.Core.Bool.{Bool, cond}
 use Rattle.units.specs.declared.Check.{Check}
 use Rattle.units.specs.declared.Check.the-variants as check
+use Rattle.units.specs.declared.YesOrNo.{YesOrNo}
+use Rattle.units.specs.declared.YesOrNo.the-variants as yes-or-no
 
 -- 1: "state rules or store lengths broken"
 abbrev pub brokenState : ℕ
@@ -74,3 +76,7 @@ fineOr holds n = cond holds check.Fine (check.Refused n)
 abbrev pub unless : {A : Type 0} → (ℕ → A) → Check → A → A
 unless refused check.Fine answer = answer
 unless refused (check.Refused n) answer = refused n
+
+-- Document 01's values for each case of a yes-or-no answer: the refusal's number alone, or whether it is so.
+abbrev pub isUnless : Check → Bool → YesOrNo
+isUnless k b = unless yes-or-no.Refused k (yes-or-no.Is b)

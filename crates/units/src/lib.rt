@@ -62,6 +62,12 @@ impl Check {
     }
 }
 
+// A yes or a no, or a refusal. Here, since the log, the quorums and the window all answer so.
+pub enum YesOrNo {
+    Is(bool),
+    Refused(u64),
+}
+
 // Here, since the quorums and the log both take the smaller of two indices.
 pub fn smaller(a: u64, b: u64) -> u64
     ensures { λ r. ⌜ r ≡ min a b ⌝ }

@@ -17,8 +17,8 @@ config-requires c κs = search needs
 contains-requires : tie.Need-contains-requires
 contains-requires c κs = search needs
 
-write-answer-requires : tie.Need-write-answer-requires
-write-answer-requires c κs = search needs
+write-yes-or-no-requires : tie.Need-write-yes-or-no-requires
+write-yes-or-no-requires c κs = search needs
 
 same-length : tie.Need-same-length
 same-length c = search needs
@@ -33,6 +33,6 @@ joint-contains-spec =
     returns
     config-requires
     contains-requires
-    write-answer-requires
+    write-yes-or-no-requires
     same-length
     returns-2)

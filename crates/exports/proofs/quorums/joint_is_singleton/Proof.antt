@@ -16,8 +16,8 @@ config-requires c κs = search needs
 is-singleton-requires : tie.Need-is-singleton-requires
 is-singleton-requires c κs = search needs
 
-write-answer-requires : tie.Need-write-answer-requires
-write-answer-requires c κs = search needs
+write-yes-or-no-requires : tie.Need-write-yes-or-no-requires
+write-yes-or-no-requires c κs = search needs
 
 same-length : tie.Need-same-length
 same-length c = search needs
@@ -32,6 +32,6 @@ joint-is-singleton-spec =
     returns
     config-requires
     is-singleton-requires
-    write-answer-requires
+    write-yes-or-no-requires
     same-length
     returns-2)

@@ -17,8 +17,8 @@ load-requires c κs = search needs
 has-next-entries-since-requires : tie.Need-has-next-entries-since-requires
 has-next-entries-since-requires c κs = search needs
 
-write-told-requires : tie.Need-write-told-requires
-write-told-requires c κs = search needs
+write-yes-or-no-requires : tie.Need-write-yes-or-no-requires
+write-yes-or-no-requires c κs = search needs
 
 same-length : tie.Need-same-length
 same-length c = search needs
@@ -27,4 +27,4 @@ returns-3 : tie.Need-returns-3
 returns-3 c = long _ _ _ _ (omega arith) (long _ _ _ _ (omega arith) cc)
 
 pub log-has-next-entries-since-spec : {M : Type 1} → statement M
-log-has-next-entries-since-spec = tie.close (tie.spec returns returns-2 load-requires has-next-entries-since-requires write-told-requires same-length returns-3)
+log-has-next-entries-since-spec = tie.close (tie.spec returns returns-2 load-requires has-next-entries-since-requires write-yes-or-no-requires same-length returns-3)

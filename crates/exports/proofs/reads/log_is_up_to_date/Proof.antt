@@ -17,8 +17,8 @@ load-requires c κs = search needs
 is-up-to-date-requires : tie.Need-is-up-to-date-requires
 is-up-to-date-requires c κs = search needs
 
-write-told-requires : tie.Need-write-told-requires
-write-told-requires c κs = search needs
+write-yes-or-no-requires : tie.Need-write-yes-or-no-requires
+write-yes-or-no-requires c κs = search needs
 
 same-length : tie.Need-same-length
 same-length c = search needs
@@ -27,4 +27,4 @@ returns-3 : tie.Need-returns-3
 returns-3 c = long _ _ _ _ (omega arith) (long _ _ _ _ (omega arith) cc)
 
 pub log-is-up-to-date-spec : {M : Type 1} → statement M
-log-is-up-to-date-spec = tie.close (tie.spec returns returns-2 load-requires is-up-to-date-requires write-told-requires same-length returns-3)
+log-is-up-to-date-spec = tie.close (tie.spec returns returns-2 load-requires is-up-to-date-requires write-yes-or-no-requires same-length returns-3)

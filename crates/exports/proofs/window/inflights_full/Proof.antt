@@ -17,8 +17,8 @@ load-window-requires c κs = search needs
 full-requires : tie.Need-full-requires
 full-requires c κs = search needs
 
-write-fullness-requires : tie.Need-write-fullness-requires
-write-fullness-requires c κs = search needs
+write-yes-or-no-requires : tie.Need-write-yes-or-no-requires
+write-yes-or-no-requires c κs = search needs
 
 same-length : tie.Need-same-length
 same-length c = search needs
@@ -34,6 +34,6 @@ inflights-full-spec =
     returns-2
     load-window-requires
     full-requires
-    write-fullness-requires
+    write-yes-or-no-requires
     same-length
     returns-3)

@@ -25,11 +25,7 @@ is-full-requires c κs = search needs
 
 returns-2 : tie.Need-returns-2
 unfolding fullness
-returns-2 c = rw (← c .before .before .before .before .checked .ensures, c .before .before .enum-told .given .1, ← c .before .is-full .ensures, c .if1 .taken)
-
-returns-3 : tie.Need-returns-3
-unfolding fullness
-returns-3 c = rw (← c .before .before .before .before .checked .ensures, c .before .before .enum-told .given .1, ← c .before .is-full .ensures, c .if1 .left)
+returns-2 c = rw (← c .before .before .before .checked .ensures, c .before .enum-told .given .1, c .is-full .ensures)
 
 pub full-spec : {M : Type 1} → statement M
 full-spec =
@@ -41,5 +37,4 @@ full-spec =
     refusal-requires
     returns
     is-full-requires
-    returns-2
-    returns-3)
+    returns-2)

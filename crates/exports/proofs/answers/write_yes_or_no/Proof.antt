@@ -1,7 +1,7 @@
--- `write_told` meets its contract: each answer leaves what its case says.
+-- `write_yes_or_no` meets its contract: each answer leaves what its case says.
 use borrow.Author.Needs.{needs}
-use Rattle.exports.proofs.answers.write_told.Statement.{statement}
-use Rattle.exports.proofs.answers.write_told.Tie as tie
+use Rattle.exports.proofs.answers.write_yes_or_no.Statement.{statement}
+use Rattle.exports.proofs.answers.write_yes_or_no.Tie as tie
 
 enum-known-said : tie.Need-enum-known-said
 enum-known-said c = search needs
@@ -24,8 +24,8 @@ returns c = rw (c .before .before .said .given .1, c .flag .ensures)
 returns-2 : tie.Need-returns-2
 returns-2 c = rw (c .before .said2 .given .1)
 
-pub write-told-spec : {M : Type 1} → statement M
-write-told-spec =
+pub write-yes-or-no-spec : {M : Type 1} → statement M
+write-yes-or-no-spec =
     tie.close
     (tie.spec
     enum-known-said
