@@ -22,87 +22,87 @@ use Rattle.exports.specs.Words.{logLength, singleLength, pairLength, ids
 use Rattle.exports.specs.LogCalls.{decidedLeaves}
 use Rattle.exports.specs.Rows.{peersFrom, configFrom}
 
--- How a vote stands, as a word.
+-- How a vote stands, as a word: 01's Pending, Lost and Won as 0, 1 and 2.
 abbrev pub resultWord : VoteResult → ℕ
 resultWord result.Pending = 0
 resultWord result.Lost = 1
 resultWord result.Won = 2
 
--- What an answer with an index leaves of `answer`: the index, and whether nobody had a say in it; or the refusal's number as the result.
+-- What an answer with an index leaves of `answer`: the index, and whether nobody had a say in it, "(index, false)" or "(u64::MAX, true)"; or the refusal's number as the result. "Every refusal returns its number alone and changes nothing."
 abbrev pub committedLeaves : Committed → List ℕ → Outcome
 committedLeaves (committed.At index free) values = leaves 0 (put values (index .0 ∷ flagWord free ∷ []) ∷ [])
 committedLeaves (committed.Refused number) values = leaves number (values ∷ [])
 
--- What the answer of a vote leaves of `answer`: how the vote stands.
+-- What the answer of a vote leaves of `answer`: how the vote stands, or the refusal likewise.
 abbrev pub verdictLeaves : Verdict → List ℕ → Outcome
 verdictLeaves (verdict.Stands r) values = leaves 0 (put values (resultWord r ∷ []) ∷ [])
 verdictLeaves (verdict.Refused number) values = leaves number (values ∷ [])
 
--- What a list of ids leaves of `answer`: how many ids, then all the words of their list, which are 0 behind the last id.
+-- What a list of ids, "each once", leaves of `answer`: how many ids, then all the words of their list, which are 0 behind the last id; or the refusal likewise.
 abbrev pub listedLeaves : Check → ℕ → List ℕ → List ℕ → Outcome
 listedLeaves check.Fine count ids values = leaves 0 (put values (count ∷ ids) ∷ [])
 listedLeaves (check.Refused number) count ids values = leaves number (values ∷ [])
 
--- What the answer of `ids` leaves of `answer`.
+-- What the answer of `ids` leaves of `answer`: that.
 abbrev pub idsLeaves : Ids → List ℕ → Outcome
 idsLeaves said values = listedLeaves (said .check) (said .count) (said .ids) values
 
--- What the sizes of a configuration leave of `answer`: how many ids it has incoming, and how many outgoing.
+-- What the sizes of a configuration leave of `answer`: how many ids it has incoming, and how many outgoing. For `clear`.
 abbrev pub sizesLeaves : JointConfig → List ℕ → Outcome
 sizesLeaves config values = leaves 0 (put values (config .incoming .count ∷ config .outgoing .count ∷ []) ∷ [])
 
 -- THE PROMISES of the questions: what each leaves of `answer`, here `values`. Of one set:
 module _ (voters rows values : List ℕ) where
-  -- `majority_committed_index`.
+  -- `majority_committed_index`: "the quorum-th largest acknowledgement; a missing one counts as 0".
   abbrev pub majorityIndexLeaves : Outcome
   majorityIndexLeaves = unlessShort values pairLength (values ∷ []) (committedLeaves (committedIndex (setOf voters) (peersFrom rows)) values)
 
-  -- `majority_vote_result`.
+  -- `majority_vote_result`: "an empty set is Won; otherwise Won if yes reaches the quorum, else Pending if yes plus missing reaches it, else Lost."
   abbrev pub majorityResultLeaves : Outcome
   majorityResultLeaves = unlessShort values singleLength (values ∷ []) (verdictLeaves (voteResult (setOf voters) (peersFrom rows)) values)
 
 -- Of both halves, by the rows:
 module _ (incoming outgoing rows values : List ℕ) where
-  -- `joint_committed_index`.
+  -- `joint_committed_index`: "The index is the smaller of the two, the flag is true only if both are."
   abbrev pub jointIndexLeaves : Outcome
   jointIndexLeaves = unlessShort values pairLength (values ∷ []) (committedLeaves (jointIndex (configFrom incoming outgoing) (peersFrom rows)) values)
 
-  -- `joint_vote_result`.
+  -- `joint_vote_result`: "Won if Won in both, Lost if Lost in either, else Pending."
   abbrev pub jointResultLeaves : Outcome
   jointResultLeaves = unlessShort values singleLength (values ∷ []) (verdictLeaves (jointVerdict (configFrom incoming outgoing) (peersFrom rows)) values)
 
 -- And of both halves alone:
 module _ (incoming outgoing : List ℕ) where
-  -- `joint_is_singleton`.
+  -- `joint_is_singleton`, which 01, Joint, names: one incoming voter, and nobody outgoing.
   abbrev pub singletonLeaves : List ℕ → Outcome
   singletonLeaves values = unlessShort values singleLength (values ∷ []) (yesOrNoLeaves (singleton (configFrom incoming outgoing)) values)
 
-  -- `joint_contains`.
+  -- `joint_contains`, which 01, Joint, names: a voter of either half.
   abbrev pub containsLeaves : ℕ → List ℕ → Outcome
   containsLeaves id values = unlessShort values singleLength (values ∷ []) (yesOrNoLeaves (containsOf (configFrom incoming outgoing) id) values)
 
-  -- `joint_ids`.
+  -- `joint_ids`: "the ids of both, each once. We list ids in rising order".
   abbrev pub jointIdsLeaves : List ℕ → Outcome
   jointIdsLeaves values = unlessShort values idsLength (values ∷ []) (idsLeaves (idsAnswer (configFrom incoming outgoing)) values)
 
-  -- 01, Joint: "`is_singleton`, `contains`, `clear` and the ids of both". What crate quorum promises of `clear` is the same of every configuration, so nothing of the halves is read and none is refused.
+  -- `joint_clear`, which 01, Joint, names. What crate quorum promises of `clear` is the same of every configuration, so that it "reads nothing and refuses nothing" (open points).
   abbrev pub clearLeaves : List ℕ → Outcome
   clearLeaves values = unlessShort values pairLength (values ∷ []) (sizesLeaves (oneSet noVoters) values)
 
 -- THE PROMISES of the checks: the refusal of each, 0 where it finds nothing wrong.
--- 01, refusal 12: "over 7 voters, a repeated voter id";
+-- `voters_checked`: "over 7 voters, a repeated voter id".
 abbrev pub votersRefusal : List ℕ → ℕ
 votersRefusal voters = refusalOf (votersCheck (setOf voters))
 
--- that of either half;
+-- `joint_checked`: that of either of "Two sets, incoming and outgoing".
 abbrev pub jointRefusal : List ℕ → List ℕ → ℕ
 jointRefusal incoming outgoing = refusalOf (configCheck (configFrom incoming outgoing))
 
--- "over 64 rows, a repeated row id".
+-- `rows_checked`: "over 64 rows, a repeated row id".
 abbrev pub rowsRefusal : List ℕ → ℕ
 rowsRefusal rows = refusalOf (rowsCheck (peersFrom rows))
 
--- THE PROMISE of `leader_maybe_commit`: what it leaves of `log` and `answer`.
+-- THE PROMISE of `leader_maybe_commit`: what it leaves of `log` and `answer`, by the leader's commit step (leader/specs/Leader.antt); 1 before 12, since "The lowest number wins".
 abbrev pub leaderCommitLeaves : List ℕ → List ℕ → List ℕ → ℕ → List ℕ → List ℕ → List ℕ → List ℕ → Outcome
 leaderCommitLeaves log settled pending term incoming outgoing rows values =
     let slices = log ∷ values ∷ [] in

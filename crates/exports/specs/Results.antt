@@ -19,6 +19,6 @@ pub record Named (said : Bounds) (l : Log) (settled pending answer : List ℕ) :
   pub part : partAt answer settled pending ≡ partOf said l settled pending
   pub inside : getD answer 3 0 + getD answer 4 0 ≤ length (storeAt (getD answer 0 0) settled pending)
 
--- A result of 0 leaves an answer that names the part.
+-- A result of 0 leaves an answer that names "a part of whichever store holds it".
 abbrev pub Names : Log → List ℕ → List ℕ → Bounds → Outcome → Type 0
 Names l settled pending said out = out .result ≡ 0 → Named said l settled pending (getD (out .slices) 0 [])

@@ -15,7 +15,7 @@ use Rattle.quorum.specs.declared.rows.Vote.the-variants as vote
 use Rattle.quorum.specs.declared.rows.Peer.{Peer}
 use Rattle.quorum.specs.declared.rows.Question.{Question}
 
--- Words of a row.
+-- Words of 01's "peer row": its id, whether an acknowledgement is there, that, the vote.
 abbrev pub rowLength : ℕ
 rowLength = 4
 
@@ -24,15 +24,15 @@ rowLength = 4
 abbrev pub ackFrom : ℕ → ℕ → Ack
 ackFrom known index = cond (eqb known 0) ack.Missing (ack.At (indexOf index))
 
--- 1 is a yes, 2 a no, and any other word says that the vote is missing.
+-- "its vote as missing, yes or no": 1 is a yes, 2 a no, and any other word says that the vote is missing.
 abbrev pub voteFrom : ℕ → Vote
 voteFrom said = cond (eqb said 1) vote.Yes (cond (eqb said 2) vote.No vote.Missing)
 
--- The row of four words: its id, whether an acknowledgement is there, that, the vote.
+-- The row of four words, in the order of `rowLength`.
 abbrev pub peerFrom : ℕ → ℕ → ℕ → ℕ → Peer
 peerFrom id known index said = record { id = id; ack = ackFrom known index; vote = voteFrom said }
 
--- The rows that the words say, four words each. Words after the last whole row say nothing.
+-- "a lent list of peer rows": those that the words say, four words each. Words after the last whole row say nothing.
 unfoldable pub peersFrom : List ℕ → List Peer
 peersFrom [] = []
 peersFrom (id ∷ []) = []
@@ -40,13 +40,14 @@ peersFrom (id ∷ known ∷ []) = []
 peersFrom (id ∷ known ∷ index ∷ []) = []
 peersFrom (id ∷ known ∷ index ∷ said ∷ words) = peerFrom id known index said ∷ peersFrom words
 
--- The ids of the rows, and what a question reads of the row of an id.
+-- The ids of the rows. For refusal 12: "a repeated row id".
 abbrev pub rowIds : List ℕ → List ℕ
 rowIds words = map idOf (peersFrom words)
 
+-- What a question reads of the row of an id: "a voter without a row is missing everywhere".
 abbrev pub readOf : Question → List ℕ → ℕ → ℕ
 readOf q words id = valueFor q (rowOf (peersFrom words) id)
 
--- The two halves that two slices of ids say.
+-- "Two sets, incoming and outgoing": those that two slices of ids say.
 abbrev pub configFrom : List ℕ → List ℕ → JointConfig
 configFrom incoming outgoing = record { incoming = setOf incoming; outgoing = setOf outgoing }

@@ -21,15 +21,15 @@ use Rattle.inflights.specs.declared.Counted.the-variants as count-is
 abbrev pub windowUnless : Check → Inflights → Answer
 windowUnless k w = unless answer.Refused k (answer.Now w)
 
--- Document 01's values for each case of the answer of `count`: the refusal's number alone, or the count.
+-- Document 01's values for each case of the answer of `count`: a refusal "returns its number alone"; else the count.
 abbrev pub countUnless : Check → ℕ → Counted
 countUnless k count = unless count-is.Refused k (count-is.Is count)
 
--- The ring after a call that writes: as it was beside a refusal, else as it was written.
+-- The ring after a call that writes: as it was beside a refusal, which "changes nothing", else as it was written.
 abbrev pub ringUnless : Check → List ℕ → List ℕ → List ℕ
 ringUnless k before written = unless (λ _. before) k written
 
--- THE PROMISE of `new`: no flights, nothing deferred.
+-- THE PROMISE of `new`: no flights, nothing deferred, or 7: "a window cap above the ring's length". "`new` refuses only 7" (open points).
 unfoldable pub madeWindow : ℕ → ℕ → Answer
 madeWindow cap n = windowUnless (capCheck cap n) (emptyOf cap)
 
@@ -40,11 +40,11 @@ withCap w cap =
     (cond (eqb (w .count) 0) (emptyOf cap)
     (record { start = w .start; count = w .count; cap = w .cap; deferred = Cap cap }))
 
--- The checks of `set_cap`: 13 before 7.
+-- The checks of `set_cap`: 01, "13 before 7 and 11".
 unfoldable pub setCapCheck : Inflights → ℕ → ℕ → Check
 setCapCheck w n cap = bothChecks (windowCheck w n) (capCheck cap n)
 
--- THE PROMISE of `set_cap`.
+-- THE PROMISE of `set_cap`: those refusals, else the window of `withCap`, where 01's sentence stands.
 unfoldable pub capped : Inflights → ℕ → ℕ → Answer
 capped w n cap = windowUnless (setCapCheck w n cap) (withCap w cap)
 
@@ -52,15 +52,15 @@ capped w n cap = windowUnless (setCapCheck w n cap) (withCap w cap)
 unfoldable pub fullness : Inflights → ℕ → YesOrNo
 fullness w n = isUnless (windowCheck w n) (isFull w)
 
--- THE PROMISE of `count`.
+-- THE PROMISE of `count`: how many flights, or 13: "`full` and `count` take the ring too and refuse 13" (open points).
 unfoldable pub counted : Inflights → ℕ → Counted
 counted w n = countUnless (windowCheck w n) (w .count)
 
--- The checks of `add`: 13 before 11.
+-- The checks of `add`: 01, "13 before 7 and 11".
 unfoldable pub addCheck : Inflights → ℕ → Check
 addCheck w n = bothChecks (windowCheck w n) (roomCheck w)
 
--- One flight more is counted.
+-- One flight more is counted. For `add`, which "puts one last".
 abbrev pub oneMore : Inflights → Inflights
 oneMore w = record { start = w .start; count = w .count + 1; cap = w .cap; deferred = w .deferred }
 
@@ -81,7 +81,7 @@ takenUp w (Cap c) = emptyOf c
 unfoldable pub takeUp : Inflights → Inflights
 takeUp w = cond (eqb (w .count) 0) (takenUp w (w .deferred)) w
 
--- The window without its first k flights. What stands behind them stays where it is.
+-- The window without its first k flights, for "drops from the front": start is moved on "modulo the ring's length" (open points), and what stands behind stays: "flights never move".
 abbrev pub behind : Inflights → ℕ → ℕ → Inflights
 behind w k n = record { start = placeOf (w .start) k n; count = w .count - k; cap = w .cap; deferred = w .deferred }
 
@@ -89,7 +89,7 @@ behind w k n = record { start = placeOf (w .start) k n; count = w .count - k; ca
 unfoldable pub freeTo : Inflights → List ℕ → ℕ → Inflights
 freeTo w ring to = takeUp (behind w (leading to (flights w ring)) (length ring))
 
--- THE PROMISE of `free_to`.
+-- THE PROMISE of `free_to`: that, or 13: "window state broken".
 unfoldable pub freedTo : Inflights → List ℕ → ℕ → Answer
 freedTo w ring to = windowUnless (windowCheck w (length ring)) (freeTo w ring to)
 
@@ -110,7 +110,7 @@ nextCap w = capOnEmpty (w .deferred) (w .cap)
 unfoldable pub cleared : Inflights → ℕ → Answer
 cleared w n = windowUnless (windowCheck w n) (emptyOf (nextCap w))
 
--- The window with start 0.
+-- The window with start 0. For `rewind`: "start becomes 0".
 abbrev pub fromZero : Inflights → Inflights
 fromZero w = record { start = 0; count = w .count; cap = w .cap; deferred = w .deferred }
 
@@ -118,6 +118,6 @@ fromZero w = record { start = 0; count = w .count; cap = w .cap; deferred = w .d
 unfoldable pub rewind : Inflights → Inflights
 rewind w = cond (eqb (w .count) 0) (fromZero w) w
 
--- THE PROMISE of `maybe_free_buffer`.
+-- THE PROMISE of `maybe_free_buffer`: that, or 13: "window state broken".
 unfoldable pub rewound : Inflights → ℕ → Answer
 rewound w n = windowUnless (windowCheck w n) (rewind w)

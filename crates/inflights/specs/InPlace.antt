@@ -6,7 +6,7 @@ use Rattle.inflights.specs.declared.Answer.{Answer}
 use Rattle.inflights.specs.declared.Answer.the-variants.{Now, Refused}
 use Rattle.inflights.specs.declared.Step.{Step}
 
--- The window that an answer leaves of w, and the number that is returned: the promise of the calls of `bridge`.
+-- The window that an answer leaves of w, and the number that is returned: the promise of the calls of `bridge`. 01, "Where each language form goes": thin calls "store back what the by-value core returns".
 abbrev pub stepOf : Inflights → Answer → Step
 stepOf w (Now v) = record { window = v; code = 0 }
 stepOf w (Refused n) = record { window = w; code = n }

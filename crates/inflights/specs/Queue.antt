@@ -14,11 +14,11 @@ use Rattle.inflights.specs.declared.Inflights.{Inflights}
 use Rattle.inflights.specs.declared.Answer.the-variants.{Refused}
 use Rattle.inflights.specs.declared.Counted.the-variants as count-is
 
--- Every flight of a list is at most `to`.
+-- Every flight of a list is at most `to`: those that go "while the flight is at most `to`".
 unfoldable pub AllAtMost : ℕ → List ℕ → Type 0
 AllAtMost to = Each (λ x. x ≤ to)
 
--- A list is empty, or begins with a flight above `to`.
+-- A list is empty, or begins with a flight above `to`: "stopping at the first larger one".
 unfoldable pub BeginsAbove : ℕ → List ℕ → Type 0
 BeginsAbove to [] = Unit {0}
 BeginsAbove to (x ∷ xs) = to < x
@@ -30,7 +30,7 @@ pub record Frees (to : ℕ) (before after : List ℕ) : Type 0 where
   pub small : AllAtMost to gone
   pub stops : BeginsAbove to after
 
--- A deferred cap exists, and count is at least that.
+-- 01, Inflights: "a deferred cap exists and count is at least that".
 abbrev pub Reached : Deferred → ℕ → Type 0
 Reached Nothing count = ⊥
 Reached (Cap c) count = c ≤ count

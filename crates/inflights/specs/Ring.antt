@@ -11,11 +11,11 @@ use Rattle.inflights.specs.declared.Inflights.{Inflights}
 unfoldable pub placeOf : ℕ → ℕ → ℕ → ℕ
 placeOf start i n = (start + i) % n
 
--- The k-th flight, counted from 0.
+-- The k-th flight, counted from 0. For 01's "queue of u64 flights".
 abbrev pub flightAt : ℕ → List ℕ → ℕ → ℕ
 flightAt start ring k = getD ring (placeOf start k (length ring)) 0
 
--- All of them, by where they start and how many they are.
+-- All flights of the "queue of u64 flights", by where they start and how many they are.
 unfoldable pub flightsFrom : ℕ → ℕ → List ℕ → List ℕ
 flightsFrom start count ring = listed (flightAt start ring) 0 count
 
@@ -28,7 +28,7 @@ unfoldable pub leading : ℕ → List ℕ → ℕ
 leading to [] = 0
 leading to (x ∷ xs) = cond (leb x to) (suc (leading to xs)) 0
 
--- A start and a number of flights behind it that a ring of n words has.
+-- A start and a number of flights behind it that a ring of n words has: refusal 13 keeps out "cap above the ring, a start outside the ring".
 pub record InRing (start i n : ℕ) : Type 0 where
   pub start-ring : start < max n 1
   pub count-ring : i ≤ n

@@ -21,7 +21,7 @@ deferredFits (Cap c) count cap = ltb c cap && ltb 0 count
 unfoldable pub sound : Inflights → ℕ → Bool
 sound w n = leb (w .count) (w .cap) && (leb (w .cap) n && (startFits (w .start) n && deferredFits (w .deferred) (w .count) (w .cap)))
 
--- Refusal 13, where a rule is broken.
+-- Refusal 13, where a rule is broken: "window state broken".
 unfoldable pub windowCheck : Inflights → ℕ → Check
 windowCheck w n = fineOr (sound w n) brokenWindow
 
@@ -29,7 +29,7 @@ windowCheck w n = fineOr (sound w n) brokenWindow
 unfoldable pub capCheck : ℕ → ℕ → Check
 capCheck cap n = fineOr (leb cap n) noRoom
 
--- A deferred cap exists, and count is at least that.
+-- 01, Inflights: "a deferred cap exists and count is at least that".
 abbrev pub deferredReached : Deferred → ℕ → Bool
 deferredReached Nothing count = false
 deferredReached (Cap c) count = leb c count
@@ -42,16 +42,16 @@ isFull w = eqb (w .count) (w .cap) || deferredReached (w .deferred) (w .count)
 unfoldable pub roomCheck : Inflights → Check
 roomCheck w = fineOr (not (isFull w)) windowFull
 
--- A window of no flights, at the ring's first word.
+-- A window of no flights, at the ring's first word. For `new`, and for an empty queue where 01 says that "start becomes 0".
 abbrev pub emptyOf : ℕ → Inflights
 emptyOf cap = record { start = 0; count = 0; cap = cap; deferred = Nothing }
 
--- The rule of a deferred cap as a fact: it is below cap, and the queue is not empty.
+-- The rule of a deferred cap as a fact: none "that is not below cap or stands beside an empty queue".
 abbrev pub Waits : Deferred → ℕ → ℕ → Type 0
 Waits Nothing count cap = Unit {0}
 Waits (Cap c) count cap = (c < cap) × (0 < count)
 
--- The rules of `sound` as facts, which inner functions require. A start below the larger of n and 1 lies in the ring, or is 0. That both say the same is proved in proofs/Facts.antt.
+-- The rules of `sound` as facts, which inner functions require: refusal 13, "window state broken", is not given. A start below the larger of n and 1 lies in the ring, or is 0. That both say the same is proved in proofs/Facts.antt.
 pub record Sound (w : Inflights) (n : ℕ) : Type 0 where
   pub count-cap : w .count ≤ w .cap
   pub cap-ring : w .cap ≤ n

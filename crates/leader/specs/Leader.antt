@@ -14,7 +14,7 @@ use Rattle.raft_log.specs.declared.Log.{Log}
 use Rattle.raft_log.specs.declared.Decided.{Decided}
 use Rattle.raft_log.specs.declared.Decided.the-variants as decided
 
--- THE PROMISE of `commit_found`: an index is offered to the log; a refusal is handed on, where the log itself is not refused.
+-- THE PROMISE of `commit_found`: an index is offered to the log's `maybe_commit`; a refusal of the quorums is handed on, after the log's own: 1 before 12, since "The lowest number wins".
 abbrev pub commitFound : Log → List ℕ → List ℕ → ℕ → Committed → Decided
 commitFound l settled pending term (found.At index free) = maybeCommit l settled pending (index .0) term
 commitFound l settled pending term (found.Refused number) = cond (broken l settled pending) (decided.Refused brokenState) (decided.Refused number)

@@ -1,4 +1,4 @@
--- The leader's rule, as the paper has it. A reader must know: figure 2, Rules for Servers, Leaders: "If there exists an N such that N > commitIndex, a majority of matchIndex[i] >= N, and log[N].term == currentTerm: set commitIndex = N".
+-- The leader's rule, as the paper has it. A reader must know: figure 2, Rules for Servers, Leaders: "If there exists an N such that N > commitIndex, a majority of matchIndex[i] ≥ N, and log[N].term == currentTerm: set commitIndex = N".
 -- That `maybe_commit` commits only by this rule is proved in proofs/Backed.antt.
 use Prim.Native.Nat.{ℕ, _≤_, _<_}
 use mathlib.Core.Path.{_≡_}

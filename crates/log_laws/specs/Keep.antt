@@ -15,23 +15,23 @@ use Rattle.raft_log.specs.declared.Appended.the-variants as appended
 use Rattle.log_laws.specs.View.{view-of}
 
 module _ (P : Log → List ℕ → List ℕ → Type 0) where
-  -- P holds after an answer that is a new log, or a refusal.
+  -- P holds after an answer that is a new log; a refusal "changes nothing".
   abbrev pub AfterChanged : Changed → List ℕ → List ℕ → Type 0
   AfterChanged (changed.Now after) settled pending = P after settled pending
   AfterChanged (changed.Refused number) settled pending = Unit {0}
 
-  -- P holds after an answer that is a yes with a new log, a no, or a refusal.
+  -- P holds after an answer that is a yes with a new log; a no leaves the log as it was, and a refusal "changes nothing".
   abbrev pub AfterDecided : Decided → List ℕ → List ℕ → Type 0
   AfterDecided (decided.Yes after) settled pending = P after settled pending
   AfterDecided decided.No settled pending = Unit {0}
   AfterDecided (decided.Refused number) settled pending = Unit {0}
 
-  -- P holds after an answer of `append`.
+  -- P holds after an answer of `append`, which "answers the new last".
   abbrev pub AfterExtended : Extended → List ℕ → List ℕ → Type 0
   AfterExtended (extended.Last last after) settled pending = P after settled pending
   AfterExtended (extended.Refused number) settled pending = Unit {0}
 
-  -- P holds after an answer of `maybe_append`.
+  -- P holds after an answer of `maybe_append`: "conflict and idx + count".
   abbrev pub AfterAppended : Appended → List ℕ → List ℕ → Type 0
   AfterAppended (appended.Done conflict last after) settled pending = P after settled pending
   AfterAppended (appended.Refused number) settled pending = Unit {0}
@@ -40,6 +40,6 @@ module _ (P : Log → List ℕ → List ℕ → Type 0) where
 abbrev pub NonzeroTerms : Abstract → Type 0
 NonzeroTerms l = (i : ℕ) → l .start < i → i ≤ last l → 0 < term-of l i
 
--- The same of the list that the state and the words stand for.
+-- The same of the list that the state and the words stand for. For "settled terms are nonzero".
 abbrev pub TermsSet : Log → List ℕ → List ℕ → Type 0
 TermsSet l settled pending = NonzeroTerms (view-of l settled pending)

@@ -13,11 +13,11 @@ use Rattle.raft_log.specs.State.{Good}
 use Rattle.raft_log.specs.Slice.{partOf}
 use Rattle.log_laws.specs.View.{records, view-of}
 
--- The records of a log at the indices from low up to, not including, high.
+-- The records of a log at the indices from low up to, not including, high: what `slice(low, high)` is asked for, "a run from low, ending at high".
 unfoldable pub recordsFrom : Abstract → ℕ → ℕ → List Entry
 recordsFrom log low high = records-after (log .entries) (low - log .start - 1) (high - low)
 
--- The words are these records, one after the other, bodies included, and nothing else.
+-- The words are these records, one after the other, bodies included, and nothing else: "two words a record, term then body number".
 pub record Reads (log : Abstract) (low high : ℕ) (words : List ℕ) : Type 0 where
   pub long : length words ≡ (high - low) * recordWords
   pub same : records (high - low) words ≡ recordsFrom log low high
@@ -37,7 +37,7 @@ pub record Part (l : Log) (settled pending : List ℕ) (low high end : ℕ) (fro
   pub some : low < to .0
   pub reads : Reads (view-of l settled pending) low (to .0) words
 
--- What bounds say in answer to the question for the records from low up to high: `Empty`, that there is `None`; `Settled`, a part that ends at high or at the store boundary; `Pending`, one that ends at high; a refusal, that the question is not askable. (`Empty` and a refusal have no words, by `partOf`.)
+-- What bounds say in answer to the question for the records from low up to high ("one call answers the refusal or the bounds"): `Empty`, that there is `None`; `Settled`, a part that ends at high or at the store boundary; `Pending`, one that ends at high; a refusal, that the question is not askable. (`Empty` and a refusal have no words, by `partOf`.)
 abbrev pub Gives : Log → List ℕ → List ℕ → ℕ → ℕ → Type 0 → Bounds → Type 0
 Gives l settled pending low high None bounds.Empty = None
 Gives l settled pending low high None (bounds.Settled from to) =

@@ -12,19 +12,19 @@ use Rattle.raft_log.specs.Words.{recordWords, storeTerm, runCount, runTerm, run
 abbrev pub storeBody : List ℕ → ℕ → ℕ
 storeBody s k = getD s (k * recordWords + 1) 0
 
--- Record k of a store.
+-- Record k of a store: "term then body number".
 abbrev pub storeEntry : List ℕ → ℕ → Entry
 storeEntry s k = entry (storeTerm s k) (storeBody s k)
 
--- Record k of a run.
+-- Record k of a run: term and body of its "(index, term, body)".
 abbrev pub runEntry : List ℕ → ℕ → Entry
 runEntry run k = entry (runTerm run k) (runBody run k)
 
--- The first n records of a store.
+-- The first n records of a store: "two words a record".
 abbrev pub records : ℕ → List ℕ → List Entry
 records n s = listed (storeEntry s) 0 n
 
--- The records of a run.
+-- The records of a run: "the run is (index, term, body) triples".
 abbrev pub runEntries : List ℕ → List Entry
 runEntries run = listed (runEntry run) 0 (runCount run)
 
@@ -36,7 +36,7 @@ view-of l settled pending = record {
   entries = records (l .offset .0 - 1 - l .start .0) settled ++ records (l .count) pending;
 }
 
--- What the arguments of `maybe_append(idx, term, commit, run)` stand for: the message of the paper.
+-- What the arguments of `maybe_append(idx, term, commit, run)` stand for: the message of the paper, figure 2, "prevLogIndex", "prevLogTerm", "entries[]", "leaderCommit".
 abbrev pub messageOf : ℕ → ℕ → ℕ → List ℕ → Message
 messageOf idx term commit run = record {
   prev-log-index = idx;

@@ -45,7 +45,7 @@ pub data Acknowledged (xs : List Entry) (g : Follower) (k : ℕ) : Type 0 where
   accepted : Accepted xs g k → Acknowledged xs g k
   own : Agree (held g) (whole-list xs) (last (held g)) → Holds (held g) k → Acknowledged xs g k
 
--- The rows, which the caller fills, are honest: each number in them that is not 0 was acknowledged by the site of that id.
+-- The rows, which the caller fills, are honest: "A peer row holds its acknowledgement as missing or a number", and each number that is not 0 was acknowledged by the site of that id.
 abbrev pub Honest : List Entry → (ℕ → Follower) → List Peer → Type 0
 Honest xs sites peers = (id : ℕ) → 0 < matchIndex peers id → Acknowledged xs (sites id) (matchIndex peers id)
 
@@ -55,24 +55,24 @@ Honest xs sites peers = (id : ℕ) → 0 < matchIndex peers id → Acknowledged 
 abbrev pub HoldsUpTo : List Entry → Follower → ℕ → Type 0
 HoldsUpTo xs g n = Agree (held g) (whole-list xs) (max n (held g .start))
 
--- The voters are different ids; a quorum of them or more are holders, and each holder's site holds the leader's records up to n.
+-- The voters are "different ids"; a quorum of them or more are holders, and each holder's site holds the leader's records up to n.
 pub record HeldByMajority (xs : List Entry) (sites : ℕ → Follower) (voters : List ℕ) (n : ℕ) : Type 0 where
   pub none-twice : distinct voters ≡ true
   pub holder : ℕ → Bool
   pub enough : ByMajority holder voters
   pub hold : (id : ℕ) → holder id ≡ true → HoldsUpTo xs (sites id) n
 
--- So of every half that has voters; and one has.
+-- So of every half that has voters, 01's "every nonempty half"; and one has.
 pub record HeldByHalves (xs : List Entry) (sites : ℕ → Follower) (config : JointConfig) (n : ℕ) : Type 0 where
   pub somebody : (0 < length (votersOf (config .incoming))) ⊎ (0 < length (votersOf (config .outgoing)))
   pub by-incoming : 0 < length (votersOf (config .incoming)) → HeldByMajority xs sites (votersOf (config .incoming)) n
   pub by-outgoing : 0 < length (votersOf (config .outgoing)) → HeldByMajority xs sites (votersOf (config .outgoing)) n
 
--- THE PROMISE, of honest rows. It is proved in proofs/Main.antt.
+-- THE PROMISE, of honest rows: what "a majority of every nonempty half has reached" (01, Joint), a majority of it holds. It is proved in proofs/Main.antt.
 pub record MayCount (xs : List Entry) (sites : ℕ → Follower) (peers : List Peer) : Type 0 where
   -- what a site has acknowledged, it holds
   pub counted-held : (id : ℕ) → 0 < matchIndex peers id → Agree (held (sites id)) (whole-list xs) (matchIndex peers id)
-  -- what the leader's step commits (figure 2: "a majority of matchIndex[i] >= N"), a majority holds
+  -- what the leader's step commits (figure 2: "a majority of matchIndex[i] ≥ N"), a majority holds
   pub committed-held : (leader : Follower) (term : ℕ) (config : JointConfig) (after : Log) → leaderCommit (leader .log) (leader .settled) (leader .pending) term config peers ≡ decided.Yes after
       → HeldByHalves xs sites config (after .committed .0)
   -- and so what the quorums answer to whoever asks: of a joint configuration, of one set. Of 0 nothing is said: who has acknowledged nothing counts as 0, and need not hold a thing.

@@ -1,4 +1,5 @@
--- Peer rows by value. A reader must know: the rows of a table are the first `count`; over the limit every question is refused with 12, and else its answer is that of the lent rows.
+-- Peer rows by value. 01 has no such call: its questions "read a lent list of peer rows", and whoever lends a slice of structs needs a walk by hand (docs/DECISIONS.md, 11). A table holds the rows in an array and lends them on, so that programs need none and still run the lent calls.
+-- A reader must know: the rows of a table are the first `count`; over the limit every question is refused with 12, and else its answer is that of the lent rows.
 use Prim.Native.Nat.{_+_, min}
 use mathlib.Core.Bool.{Bool, cond}
 use mathlib.Core.List.{List}
@@ -18,15 +19,15 @@ use Rattle.quorum.specs.declared.majority.Voters.{Voters}
 use Rattle.quorum.specs.declared.rows.Peer.{Peer}
 use Rattle.peer_tables.specs.declared.Table.{Table}
 
--- THE PROMISE of `empty`: every row is nobody's.
+-- THE PROMISE of `empty`: none is counted, and every row is nobody's, "missing everywhere".
 abbrev pub noRows : Table
 noRows = record { peers = replicate rowLimit nobody; count = 0 }
 
--- THE PROMISE of `with`: the row stands behind the others, and one more is counted. In a full table there is no place to `set`, so the rows stay, and the count stops at one over the limit.
+-- THE PROMISE of `with`: the row stands behind the others, and one more is counted. In a full table there is no place to `set`, so the rows stay, and the count stops at one over the limit, which says "over 64 rows".
 abbrev pub oneMore : Table → Peer → Table
 oneMore t p = record { peers = set (t .peers) (t .count) p; count = min (t .count) rowLimit + 1 }
 
--- The rows of a table.
+-- The rows of a table, as they are lent on: "a lent list of peer rows".
 abbrev pub rowsIn : Table → List Peer
 rowsIn t = take (t .count) (t .peers)
 
@@ -34,18 +35,18 @@ rowsIn t = take (t .count) (t .peers)
 abbrev pub tooMany : Table → Bool
 tooMany t = ltb rowLimit (t .count)
 
--- THE PROMISE of `majority::committed_index`: refusal 12 where there are too many rows, else the answer of the lent ones. So for the other three.
+-- THE PROMISE of `majority::committed_index`: refusal 12, "over 64 rows", else the answer of the lent ones; 01's sentence stands beside `committedIndex` (quorum/specs/Majority.antt).
 abbrev pub tableIndex : Voters → Table → Committed
 tableIndex v t = cond (tooMany t) (answer.Refused brokenSet) (committedIndex v (rowsIn t))
 
--- THE PROMISE of `majority::vote_result`.
+-- THE PROMISE of `majority::vote_result`: the same by `voteResult`, there.
 abbrev pub tableResult : Voters → Table → Verdict
 tableResult v t = cond (tooMany t) (verdict.Refused brokenSet) (voteResult v (rowsIn t))
 
--- THE PROMISE of `joint::committed_index`.
+-- THE PROMISE of `joint::committed_index`: the same by `jointIndex` (quorum/specs/Joint.antt).
 abbrev pub tableJointIndex : JointConfig → Table → Committed
 tableJointIndex c t = cond (tooMany t) (answer.Refused brokenSet) (jointIndex c (rowsIn t))
 
--- THE PROMISE of `joint::vote_result`.
+-- THE PROMISE of `joint::vote_result`: the same by `jointVerdict`, there.
 abbrev pub tableJointVerdict : JointConfig → Table → Verdict
 tableJointVerdict c t = cond (tooMany t) (verdict.Refused brokenSet) (jointVerdict c (rowsIn t))

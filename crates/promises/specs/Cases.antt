@@ -42,28 +42,28 @@ use Rattle.inflights.specs.declared.Answer.the-variants.{Now}
 
 -- ---- the log
 
--- Log A. What a message moves are four numbers: offset, count, committed, persisted; `log-with` of others is A but for these, start (0,0) and applied 1.
+-- Log A: "start (0,0) .. offset 4; committed 2, persisted 3, applied 1". What a message moves are four numbers: offset, count, committed, persisted; `log-with` of others is A but for these.
 abbrev pub logA : Log
 logA = log-with 4 2 2 3
 
--- A with all five records committed, the last two of them not persisted.
+-- Log A with committed 5: all five records, the last two of them not persisted.
 abbrev pub allCommittedA : Log
 allCommittedA = log-with 4 2 5 3
 
--- The words of its settled store: records 1 to 3.
+-- The words of A's settled store: records 1 to 3, of terms 1, 1, 2.
 abbrev pub settledA : List ℕ
 settledA = 1 ∷ 1 ∷ 1 ∷ 2 ∷ 2 ∷ 3 ∷ []
 
--- The words of its pending store: records 4 and 5, and room for two more.
+-- The words of A's pending store, "pending room 4 records": records 4 and 5, of terms 2 and 3, and room for two more.
 abbrev pub pendingA : List ℕ
 pendingA = 2 ∷ 4 ∷ 3 ∷ 5 ∷ 0 ∷ 0 ∷ 0 ∷ 0 ∷ []
 
--- `maybe_append(idx, term, commit, run)` on A gives this answer, and pending then has these words.
+-- `maybe_append(idx, term, commit, run)` on A gives this answer, and pending then has these words. "Each case begins from A."
 pub record Appends (idx term commit : ℕ) (run : List ℕ) (answer : Appended) (words : List ℕ) : Type 0 where
   pub answers : maybeAppend logA settledA pendingA idx term commit run ≡ answer
   pub stores : maybeAppendStore answer pendingA idx run ≡ words
 
--- The records (4,2),(5,4),(6,4), of which A holds the first and not the second.
+-- The run of "records (4,2),(5,4),(6,4)", bodies 6, 7, 8; A holds the first of them and not the second.
 abbrev pub message : List ℕ
 message = 4 ∷ 2 ∷ 6 ∷ 5 ∷ 4 ∷ 7 ∷ 6 ∷ 4 ∷ 8 ∷ []
 
@@ -77,60 +77,62 @@ found index term = byterm.Found (indexOf index) (termOf term)
 
 -- ---- quorums
 
--- So many ids, from one on.
+-- So many ids, one after the other, from this one on.
 abbrev pub idsFrom : ℕ → ℕ → List ℕ
 idsFrom id n = listed (λ k. k) id n
 
--- The voters of these ids.
+-- The voter set of these ids.
 abbrev pub votersFrom : ℕ → ℕ → Voters
 votersFrom id n = setOf (idsFrom id n)
 
--- The voters 1, 2, 3, nobody outgoing.
+-- The configuration of the voters 1, 2, 3, nobody outgoing.
 abbrev pub threeVoters : JointConfig
 threeVoters = oneSet (votersFrom 1 3)
 
--- Rows that say these things, whose ids rise from one on.
+-- Rows that say these things, one each, whose ids rise from this one on.
 abbrev pub rowsFrom : {A : Type 0} → (ℕ → A → Peer) → ℕ → List A → List Peer
 rowsFrom row id [] = []
 rowsFrom row id (said ∷ others) = row id said ∷ rowsFrom row (suc id) others
 
--- The row of an id with an acknowledgement, and with a vote.
+-- The row of an id with an acknowledgement, its vote missing.
 abbrev pub acked : ℕ → ℕ → Peer
 acked id index = record { id = id; ack = ack.At (indexOf index); vote = vote.Missing }
 
+-- The row of an id with a vote, its acknowledgement missing.
 abbrev pub voted : ℕ → Vote → Peer
 voted id said = record { id = id; ack = ack.Missing; vote = said }
 
--- Rows with these acknowledgements, and with these votes, whose ids rise from 1 on.
+-- Rows with these acknowledgements, whose ids rise from 1 on.
 abbrev pub acking : List ℕ → List Peer
 acking acks = rowsFrom acked 1 acks
 
+-- Rows with these votes, whose ids rise from 1 on.
 abbrev pub voting : List Vote → List Peer
 voting votes = rowsFrom voted 1 votes
 
--- The answer that n is committed, by voters who had a say.
+-- The answer that n is committed, by voters who had a say: "(index, false)".
 abbrev pub upTo : ℕ → Committed
 upTo n = answer.At (indexOf n) false
 
--- Incoming 1, 2, 3, outgoing 4, 5.
+-- The configuration for "incoming 5,4,3 .. outgoing 3,8": incoming 1, 2, 3, outgoing 4, 5.
 abbrev pub threeAndTwo : JointConfig
 threeAndTwo = record { incoming = votersFrom 1 3; outgoing = votersFrom 4 2 }
 
 -- ---- the window
 
--- A window of cap 4.
+-- A window of "cap 4", by its start, its count and what is deferred.
 abbrev pub window : ℕ → ℕ → Deferred → Inflights
 window start count deferred = record { start = start; count = count; cap = 4; deferred = deferred }
 
--- What stood in the ring before.
+-- What stood in the ring of 4 words before the first flight.
 abbrev pub old : List ℕ
 old = 9 ∷ 9 ∷ 9 ∷ 9 ∷ []
 
--- What stands there with all three flights.
+-- What stands in it with all three "flights 5,5,6".
 abbrev pub flown : List ℕ
 flown = 5 ∷ 5 ∷ 6 ∷ 9 ∷ []
 
--- THE TABLE. Where 01 names no commit, the case holds for each; where it names no run, the run is empty.
+-- THE TABLE: "The P cases are one table with one statement over the definitions". Where 01 names no commit, the case holds for each; where it names no run, the run is empty.
 pub record DocumentCases : Type 0 where
   -- "term(0) = 0, term(5) = 3, term(6) = 0."
   pub term-0 : lookTerm logA settledA pendingA 0 ≡ looked.At (termOf 0)

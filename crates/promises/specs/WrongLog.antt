@@ -41,22 +41,23 @@ use Rattle.promises.specs.Cases.{logA, allCommittedA, settledA, pendingA
 
 -- ---- the inputs
 
--- A call of Log A.
+-- A call of Log A of 01, Cases.
 abbrev pub onA : {B : Type 0} → (Log → List ℕ → List ℕ → B) → B
 onA call = call logA settledA pendingA
 
--- A call of a log that starts with (10,4) and has two records, 11 and 12 of terms 4 and 5, settled.
+-- A call of a log "With start (10,4)" that has two records, 11 and 12 of terms 4 and 5, settled.
 abbrev pub on10 : {B : Type 0} → (Log → List ℕ → List ℕ → B) → B
 on10 call = call (fresh 10 4 12) (4 ∷ 11 ∷ 5 ∷ 12 ∷ []) []
 
--- The pending store after a message to A.
+-- A's pending store after a message.
 abbrev pub storeBy : ℕ → ℕ → ℕ → List ℕ → List ℕ
 storeBy idx term commit run = maybeAppendStore (onA maybeAppend idx term commit run) pendingA idx run
 
--- A's settled store with room for three more records, old words in the last of them; and this store after `stable_entries(5, 3)`.
+-- A's settled store with room for three more records, old words in the last of them.
 abbrev pub roomyA : List ℕ
 roomyA = settledA ++ 0 ∷ 0 ∷ 0 ∷ 0 ∷ 8 ∷ 9 ∷ []
 
+-- That store after `stable_entries(5, 3)`.
 abbrev pub settledBy5 : List ℕ
 settledBy5 = stableEntriesStore (stableEntries logA roomyA pendingA 5 3) logA roomyA pendingA
 
@@ -64,11 +65,11 @@ settledBy5 = stableEntriesStore (stableEntries logA roomyA pendingA 5 3) logA ro
 abbrev pub wordsOfA : Bounds → List ℕ
 wordsOfA named = partOf named logA settledA pendingA
 
--- A voter that stands twice, nobody outgoing.
+-- The configuration of one voter that stands twice, nobody outgoing: broken (12).
 abbrev pub voterTwice : JointConfig
 voterTwice = oneSet (setOf (1 ∷ 1 ∷ []))
 
--- THE TABLE, in the order of docs/PROMISES.md.
+-- THE TABLE: what each call does not answer, in the order of docs/PROMISES.md.
 pub record WrongLog : Type 0 where
   -- `new`: a log over a settled record of term 0, the second of three.
   pub new-over-term-0 : newLog 0 0 3 (1 ∷ 1 ∷ 0 ∷ 2 ∷ 2 ∷ 3 ∷ []) ≢ changed.Now (fresh 0 0 3)
@@ -187,15 +188,15 @@ pub record WrongLog : Type 0 where
 
 -- ---- the wrong engines and mistakes of 01 that concern the log, each a whole definition: but for the first, the promise of `maybe_append` with one of its parts replaced
 
--- A way to take a message in: from the log, its two stores, idx, term, commit and the run, the answer and the pending store after it.
+-- A way to take a message in: from the log, its two stores, idx, term, commit and the run, the answer and the pending store after it. For 01's wrong engines, "The promises catch: an append that always gives 5" and so on.
 abbrev pub Engine : Type 0
 Engine = Log → List ℕ → List ℕ → ℕ → ℕ → ℕ → List ℕ → Appended × List ℕ
 
--- An answer, and the pending store that it leaves.
+-- An answer, and the pending store that `maybe_append` promises beside it.
 abbrev pub stored : List ℕ → ℕ → List ℕ → Appended → Appended × List ℕ
 stored pending idx run said = (said, maybeAppendStore said pending idx run)
 
--- THE PROMISE.
+-- THE PROMISE of `maybe_append`, as an engine.
 abbrev pub promised : Engine
 promised l settled pending idx term commit run = stored pending idx run (maybeAppend l settled pending idx term commit run)
 
@@ -213,16 +214,19 @@ module _ (l : Log) (settled pending : List ℕ) (idx term commit : ℕ) (run : L
       (cond (overfull after pending) (appended.Refused noRoom)
       (accepted idx (runCount run) held after))))))))
 
-  -- The promise's own three: the last by how many records are held.
+  -- The promise's own first part: the previous record is another, "doesn't match" (5).
   abbrev pub another : Bool
   another = mismatched l settled pending idx term
 
+  -- Its second: how many of the run's records come before "the first run record whose term differs".
   abbrev pub alike : ℕ
   alike = alikeBefore l settled pending idx run (runCount run)
 
+  -- Its third: the log after the message, by how many records are held.
   abbrev pub afterHeld : ℕ → Log
   afterHeld held = afterMessage l idx (runCount run) held commit
 
+  -- The table with these three parts, which is the promise (`own-parts`, below).
   abbrev pub withOwnParts : Appended × List ℕ
   withOwnParts = answerWith another alike (afterHeld alike)
 
@@ -254,10 +258,11 @@ module _ (l : Log) (settled pending : List ℕ) (idx term commit : ℕ) (run : L
   abbrev pub lowersPersisted : Appended × List ℕ
   lowersPersisted = answerWith another alike (withPersisted (afterHeld alike) (min (l .persisted .0) idx))
 
--- Two engines leave the same of every message to every log; an engine does not leave what is promised.
+-- Two engines leave the same of every message to every log.
 abbrev pub Same : Engine → Engine → Type 0
 Same one other = (l : Log) (settled pending : List ℕ) (idx term commit : ℕ) (run : List ℕ) → one l settled pending idx term commit run ≡ other l settled pending idx term commit run
 
+-- An engine does not leave what is promised.
 abbrev pub Differs : Engine → Type 0
 Differs wrong = ¬ Same promised wrong
 

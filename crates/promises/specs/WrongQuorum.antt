@@ -41,7 +41,7 @@ use Rattle.promises.specs.Cases.{idsFrom, votersFrom, threeVoters, ackin
 
 -- ---- inputs
 
--- A set that is taken with nothing refused.
+-- What `Voters::new` answers with nothing refused, and this set.
 abbrev pub fineSet : Voters → Made
 fineSet v = record { check = check.Fine; set = v }
 
@@ -53,31 +53,35 @@ uncounted v = record { ids = v .ids; count = 0 }
 abbrev pub halves : Voters → Voters → JointConfig
 halves incoming outgoing = record { incoming = incoming; outgoing = outgoing }
 
--- The rows of ids from 1 on, gathered: for the index question, for the vote.
+-- Rows with these acknowledgements, ids from 1 on, gathered for the index question.
 abbrev pub ackRows : List ℕ → Rows
 ackRows acks = gathered question.Index (acking acks)
 
+-- Rows with these votes, ids from 1 on, gathered for the vote.
 abbrev pub voteRows : List Vote → Rows
 voteRows votes = gathered question.Vote (voting votes)
 
--- Two rows of the id 1, which have acknowledged 4 and 6.
+-- Two rows of the id 1, which have acknowledged 4 and 6: broken (12).
 abbrev pub twiceOne : List Peer
 twiceOne = acking (4 ∷ []) ++ acking (6 ∷ [])
 
--- A row with something in each column.
+-- The row of the id 65: it has acknowledged 7 and votes yes.
 abbrev pub somebody : Peer
 somebody = record { id = 65; ack = ack.At (indexOf 7); vote = vote.Yes }
 
--- A table of these rows, with so many counted; of all of them; a full one, where everybody has acknowledged 5; and one row more than it takes.
+-- A table of these rows, with so many counted.
 abbrev pub tableWith : ℕ → List Peer → Table
 tableWith n rows = record { peers = rows ++ replicate (rowLimit - length rows) nobody; count = n }
 
+-- A table of these rows, all of them counted.
 abbrev pub tableOf : List Peer → Table
 tableOf rows = tableWith (length rows) rows
 
+-- A full table, where everybody has acknowledged 5.
 abbrev pub fullTable : Table
 fullTable = tableOf (acking (replicate rowLimit 5))
 
+-- That table after one row more than it takes: "over 64 rows".
 abbrev pub overfull : Table
 overfull = oneMore fullTable somebody
 
@@ -245,16 +249,19 @@ pub record WrongQuorum : Type 0 where
 
 -- ---- WRONG ENGINES
 
--- The engine with another rule for one half, for the index and for the vote: its refusals, and how it joins two halves, stay.
+-- `committed_index` of one set, by another rule for its half; its refusals stay.
 abbrev pub indexBy : (List ℕ → Half) → Voters → List Peer → Committed
 indexBy rule v peers = indexUnless (bothChecks (votersCheck v) (rowsCheck peers)) (rule (acksOf peers v))
 
+-- `committed_index` of two sets, by another rule for each half; its refusals, and how it joins the halves, stay.
 abbrev pub jointIndexBy : (List ℕ → Half) → JointConfig → List Peer → Committed
 jointIndexBy rule c peers = indexUnless (bothChecks (configCheck c) (rowsCheck peers)) (joined (rule (acksOf peers (c .incoming))) (rule (acksOf peers (c .outgoing))))
 
+-- `vote_result` of one set, by another rule for its half; its refusals stay.
 abbrev pub resultBy : (List Vote → VoteResult) → Voters → List Peer → Verdict
 resultBy rule v peers = resultUnless (bothChecks (votersCheck v) (rowsCheck peers)) (rule (votesOf peers v))
 
+-- `vote_result` of two sets, by another rule for each half; its refusals, and how it joins the halves, stay.
 abbrev pub jointResultBy : (List Vote → VoteResult) → JointConfig → List Peer → Verdict
 jointResultBy rule c peers = resultUnless (bothChecks (configCheck c) (rowsCheck peers)) (jointResult (rule (votesOf peers (c .incoming))) (rule (votesOf peers (c .outgoing))))
 
@@ -262,7 +269,7 @@ jointResultBy rule c peers = resultUnless (bothChecks (configCheck c) (rowsCheck
 abbrev pub answersZero : List ℕ → Half
 answersZero acks = record { index = 0; free = false }
 
--- "a vote that stays Pending".
+-- 01, the same: "a vote that stays Pending".
 abbrev pub staysPending : List Vote → VoteResult
 staysPending votes = result.Pending
 
@@ -271,7 +278,7 @@ abbrev pub halfIsEnough : List ℕ → Half
 halfIsEnough [] = record { index = wordMax; free = true }
 halfIsEnough (a ∷ acks) = record { index = kth-largest (length (a ∷ acks) / 2) (a ∷ acks); free = false }
 
--- And for the vote: Won if yes reaches n/2, else Pending if yes plus missing reaches it, else Lost.
+-- And for the vote, "taking n/2 as a majority": Won if yes reaches n/2, else Pending if yes plus missing reaches it, else Lost.
 abbrev pub halfWins : List Vote → VoteResult
 halfWins votes =
     cond (leb (length votes / 2) (count isYes votes)) result.Won

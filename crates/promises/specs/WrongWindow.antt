@@ -24,28 +24,31 @@ use Rattle.promises.specs.Cases.{window, old, flown}
 
 -- ---- inputs
 
--- Windows that begin at the ring's first word: of no flights, of three, and full. The three are 5, 5, 6 in `flown`, and 9, 1, 2 in `largeFirst`.
+-- A window of cap 4 at the ring's first word, with no flights.
 abbrev pub empty : Inflights
 empty = window 0 0 Nothing
 
+-- The same with three flights: 5, 5, 6 in `flown`, and 9, 1, 2 in `largeFirst`.
 abbrev pub three : Inflights
 three = window 0 3 Nothing
 
+-- The same with four flights: full.
 abbrev pub full : Inflights
 full = window 0 4 Nothing
 
+-- A ring whose first flight, 9, is larger than the two behind it, 1 and 2.
 abbrev pub largeFirst : List ℕ
 largeFirst = 9 ∷ 1 ∷ 2 ∷ 9 ∷ []
 
--- A window with nothing deferred, of another cap.
+-- A window of another cap, with nothing deferred.
 abbrev pub ofCap : ℕ → ℕ → ℕ → Inflights
 ofCap cap start count = record { start = start; count = count; cap = cap; deferred = Nothing }
 
--- One of cap 5: broken in a ring of 4 words.
+-- One of cap 5: "cap above the ring" of 4 words, broken (13).
 abbrev pub broken : ℕ → ℕ → Inflights
 broken start count = ofCap 5 start count
 
--- What a call in place leaves, over the bridge: the window, and the number that is returned.
+-- What a call of `bridge` hands back: the window, and the number beside it.
 abbrev pub stepLeft : Inflights → ℕ → Step
 stepLeft w code = record { window = w; code = code }
 

@@ -24,56 +24,64 @@ use Rattle.promises.specs.WrongLog.{roomyA}
 abbrev pub nines : ℕ → List ℕ
 nines n = replicate n 9
 
--- A log's state as words, one of those behind it; a call of Log A; and A committed beyond its last, which is broken.
+-- A log's state as words, and one word behind it.
 abbrev pub stateOf : Log → List ℕ
 stateOf l = logWords l ++ nines 1
 
+-- A call on the words of Log A of 01, Cases.
 abbrev pub callA : {B : Type 0} → (List ℕ → List ℕ → List ℕ → B) → B
 callA call = call (stateOf logA) settledA pendingA
 
+-- The words of A with committed 9, beyond its last: broken (1).
 abbrev pub brokenA : List ℕ
 brokenA = stateOf (log-with 4 2 9 3)
 
--- Result 0, and one slice or two.
+-- Result 0, and this one slice.
 abbrev pub writes : List ℕ → Outcome
 writes slice = leaves 0 (slice ∷ [])
 
+-- Result 0, and these two slices.
 abbrev pub writesBoth : List ℕ → List ℕ → Outcome
 writesBoth first second = leaves 0 (first ∷ second ∷ [])
 
--- The words of a row: an acknowledgement; one that is missing, with an index that is not to be read; a vote, 1 for yes.
+-- The words of a row with an acknowledgement, its vote missing.
 abbrev pub acks : ℕ → ℕ → List ℕ
 acks id index = id ∷ 1 ∷ index ∷ 0 ∷ []
 
+-- The words of a row whose acknowledgement is missing, with an index that is not to be read.
 abbrev pub acksNothing : ℕ → ℕ → List ℕ
 acksNothing id index = id ∷ 0 ∷ index ∷ 0 ∷ []
 
+-- The words of a row with a vote, 1 for yes, its acknowledgement missing.
 abbrev pub votes : ℕ → ℕ → List ℕ
 votes id said = id ∷ 0 ∷ 0 ∷ said ∷ []
 
--- So many rows, each of another id.
+-- The words of so many rows, each of another id.
 abbrev pub rowsOf : ℕ → List ℕ
 rowsOf zero = []
 rowsOf (suc n) = acks n 0 ++ rowsOf n
 
--- Rows that acknowledge 5, 4, 3 (ids 1, 2, 3) and 3, 8 (ids 4, 5); and two votes yes, of 1 and 2.
+-- The words of rows that acknowledge 5, 4, 3 (ids 1, 2, 3) and 3, 8 (ids 4, 5).
 abbrev pub fiveRows : List ℕ
 fiveRows = acks 1 5 ++ acks 2 4 ++ acks 3 3 ++ acks 4 3 ++ acks 5 8
 
+-- The words of two votes yes, of the ids 1 and 2.
 abbrev pub twoYes : List ℕ
 twoYes = votes 1 1 ++ votes 2 1
 
--- A window's state: start, count, cap, whether a smaller cap is deferred, that cap. The three flights of `flown`, cap 4; with a cap of 2 deferred; and more flights than the cap, which is broken.
+-- A window's state as words (start, count, cap, whether a smaller cap is deferred, that cap): the three flights of `flown`, cap 4.
 abbrev pub threeFlights : List ℕ
 threeFlights = 0 ∷ 3 ∷ 4 ∷ 0 ∷ 0 ∷ []
 
+-- The same with a cap of 2 deferred.
 abbrev pub threeDeferred : List ℕ
 threeDeferred = 0 ∷ 3 ∷ 4 ∷ 1 ∷ 2 ∷ []
 
+-- Five flights, cap 4: "count above cap", broken (13).
 abbrev pub overfullWindow : List ℕ
 overfullWindow = 0 ∷ 5 ∷ 4 ∷ 0 ∷ 0 ∷ []
 
--- THE TABLE, in the order of docs/PROMISES.md.
+-- THE TABLE: what each call does not leave, in the order of docs/PROMISES.md.
 pub record WrongWords : Type 0 where
   -- `log_new` over a settled record of term 0: refused, with the state written.
   pub log-new-writes-on-refusal : newLogLeaves 0 0 1 (0 ∷ 1 ∷ []) (nines 8) ≢ leaves zeroTerm (stateOf (fresh 0 0 1) ∷ [])

@@ -12,19 +12,19 @@ use Rattle.quorum.specs.Votes.{tally}
 use Rattle.quorum.specs.declared.half.Half.{Half}
 use Rattle.quorum.specs.declared.VoteResult.{VoteResult}
 
--- 01, Majority: "An empty set gives (u64::MAX, true); any other gives (index, false)."
+-- THE PROMISE of `index_of`, which leaves `falling` of the words. 01, Majority: "An empty set gives (u64::MAX, true); any other gives (index, false)."
 unfoldable pub halfIndex : List ℕ → Half
 halfIndex [] = record { index = wordMax; free = true }
 halfIndex (a ∷ acks) = record { index = committed (a ∷ acks); free = false }
 
--- 01, Joint: "The index is the smaller of the two, the flag is true only if both are."
+-- THE PROMISE of `joined`. 01, Joint: "The index is the smaller of the two, the flag is true only if both are."
 abbrev pub joined : Half → Half → Half
 joined a b = record { index = min (a .index) (b .index); free = a .free && b .free }
 
--- The value of an id among gathered rows: 0 where no row has it.
+-- The value of an id among gathered rows, 0 where no row has it: "a voter without a row is missing everywhere", and missing is 0.
 abbrev pub valueIn : List ℕ → List ℕ → ℕ → ℕ
 valueIn ids values id = getD values (position id ids) 0
 
--- How a vote stands whose votes are numbers (0 missing, 1 yes, 2 no).
+-- THE PROMISE of `result_of`: how a vote stands whose votes are numbers (0 missing, 1 yes, 2 no). 01, Majority: "Won if yes reaches the quorum, else Pending if yes plus missing reaches it, else Lost."
 abbrev pub numbersResult : List ℕ → VoteResult
 numbersResult votes = tally (length votes) (count (eqb 1) votes) (count (eqb 0) votes)

@@ -7,12 +7,12 @@ use lib.Dec.{eqb, leb, ltb}
 use Rattle.units.specs.declared.Check.{Check}
 use Rattle.units.specs.Refusals.{brokenSet, fineOr}
 
--- Where an id first stands, counted from 0; the length where it stands nowhere.
+-- Where an id first stands, counted from 0; the length where it stands nowhere. For `contains` (01, Joint), and for rows that are "looked up by id".
 unfoldable pub position : ℕ → List ℕ → ℕ
 position id [] = 0
 position id (x ∷ xs) = cond (eqb x id) 0 (suc (position id xs))
 
--- The id stands in the list.
+-- The id stands in the list. For `contains` (01, Joint), and for refusal 12: "a repeated voter id .. a repeated row id".
 unfoldable pub has : ℕ → List ℕ → Bool
 has id xs = ltb (position id xs) (length xs)
 
@@ -25,11 +25,11 @@ distinct (x ∷ xs) = not (has x xs) && distinct xs
 abbrev pub fewDistinct : ℕ → ℕ → List ℕ → Bool
 fewDistinct count limit ids = leb count limit && distinct ids
 
--- Refusal 12 where a test fails: the line of the table that stands above.
+-- The check of such a test: nothing wrong, or refusal 12, whose line of the table stands above.
 abbrev pub fineIf : Bool → Check
 fineIf b = fineOr b brokenSet
 
--- Refusal 12 of an array of ids with a count: more than the array has, or a repeated id among the first `count`. (The array of a voter set, and of rows, is as long as their limit.)
+-- Refusal 12 of 01's "duplicate-free array with a count": more than the array has, or a repeated id among the first `count`. (The array of a voter set, and of rows, is as long as their limit.)
 abbrev pub checkOf : List ℕ → ℕ → Check
 checkOf ids count = fineIf (fewDistinct count (length ids) (take count ids))
 

@@ -24,7 +24,7 @@ use Rattle.quorum.specs.declared.joint.Ids.{Ids}
 use Rattle.quorum.specs.declared.rows.Peer.{Peer}
 use Rattle.quorum.specs.declared.rows.Rows.{Rows}
 
--- THE PROMISE of `new`: a configuration of one set, nobody outgoing. The promise of `clear` is `oneSet noVoters`.
+-- THE PROMISE of `new`: of 01's "Two sets, incoming and outgoing" the first is this one, and nobody is outgoing. That of `clear` is `oneSet noVoters`: it "reads nothing and refuses nothing" (open points).
 abbrev pub oneSet : Voters → JointConfig
 oneSet v = record { incoming = v; outgoing = noVoters }
 
@@ -40,23 +40,23 @@ jointIndex c peers = indexUnless (bothChecks (configCheck c) (rowsCheck peers)) 
 unfoldable pub jointVerdict : JointConfig → List Peer → Verdict
 jointVerdict c peers = resultUnless (bothChecks (configCheck c) (rowsCheck peers)) (jointResult (resultOf (votesOf peers (c .incoming))) (resultOf (votesOf peers (c .outgoing))))
 
--- THE PROMISE of `committed_index_of`: as `committed_index`, over gathered rows.
+-- THE PROMISE of `committed_index_of`: as `committed_index`, "over plain values".
 unfoldable pub plainJointIndex : JointConfig → Rows → Committed
 plainJointIndex c r = indexUnless (bothChecks (configCheck c) (plainCheck r)) (joined (halfIndex (plainValues r (c .incoming))) (halfIndex (plainValues r (c .outgoing))))
 
--- THE PROMISE of `vote_result_of`: as `vote_result`, over gathered rows.
+-- THE PROMISE of `vote_result_of`: as `vote_result`, "over plain values".
 unfoldable pub plainJointVerdict : JointConfig → Rows → Verdict
 plainJointVerdict c r = resultUnless (bothChecks (configCheck c) (plainCheck r)) (jointResult (numbersResult (plainValues r (c .incoming))) (numbersResult (plainValues r (c .outgoing))))
 
--- THE PROMISE of `is_singleton`, which 01, Joint, names: one incoming voter, and nobody outgoing.
+-- THE PROMISE of `is_singleton`. 01, Joint, names "`is_singleton`, `contains`, `clear`" and leaves them to the code: one incoming voter, and nobody outgoing.
 abbrev pub singleton : JointConfig → YesOrNo
 singleton c = isUnless (configCheck c) (eqb (c .outgoing .count) 0 && eqb (c .incoming .count) 1)
 
--- THE PROMISE of `contains`, which 01, Joint, names: a voter of either half.
+-- THE PROMISE of `contains`, named there too ("`is_singleton`, `contains`, `clear`"): a voter of either half.
 abbrev pub containsOf : JointConfig → ℕ → YesOrNo
 containsOf c id = isUnless (configCheck c) (has id (votersOf (c .incoming)) || has id (votersOf (c .outgoing)))
 
--- A list that falls, turned round: each id at the end, where it is not there yet.
+-- A list that falls, turned round: each id at the end, where it is not there yet. For "each once" and "in rising order".
 unfoldable pub rising : List ℕ → List ℕ
 rising [] = []
 rising (x ∷ xs) = cond (has x (rising xs)) (rising xs) (rising xs ++ (x ∷ []))
@@ -65,15 +65,15 @@ rising (x ∷ xs) = cond (has x (rising xs)) (rising xs) (rising xs ++ (x ∷ []
 unfoldable pub bothIds : JointConfig → List ℕ
 bothIds c = rising (falling (votersOf (c .incoming) ++ votersOf (c .outgoing)))
 
--- A list of ids as the answer holds it, unused words 0; a refusal lists none.
+-- A list of ids as the answer holds it, an "array with a count", unused words 0; a refusal lists none.
 abbrev pub listed : Check → List ℕ → Ids
 listed k ids = record { check = k; ids = padded idLimit ids; count = length ids }
 
--- One step of listing: the id after those listed, where it is not there yet.
+-- One step of listing: the id after those listed, where it is not there yet. For "each once".
 abbrev pub withId : Ids → ℕ → Ids
 withId s id = cond (has id (take (s .count) (s .ids))) s (record { check = s .check; ids = set (s .ids) (s .count) id; count = s .count + 1 })
 
--- Document 01's values for each case of the answer: the refusal's number and no id, or the ids.
+-- Document 01's values for each case of the answer: a refusal "returns its number alone", with no id; else the ids.
 abbrev pub listedUnless : Check → List ℕ → Ids
 listedUnless k ids = unless (λ n. listed (check.Refused n) []) k (listed check.Fine ids)
 

@@ -19,11 +19,11 @@ use Rattle.quorum.specs.declared.rows.Peer.{Peer}
 use Rattle.quorum.specs.declared.rows.Rows.{Rows}
 use Rattle.quorum.specs.declared.rows.Vote.{Vote}
 
--- Document 01's values for each case of the index answer: the refusal's number alone, or the index with its flag.
+-- Document 01's values for each case of the index answer: a refusal "returns its number alone"; else the index with its flag, "(u64::MAX, true)" or "(index, false)".
 abbrev pub indexUnless : Check → Half → Committed
 indexUnless k h = unless answer.Refused k (answer.At (indexOf (h .index)) (h .free))
 
--- Document 01's values for each case of the vote answer: the refusal's number alone, or how the vote stands.
+-- Document 01's values for each case of the vote answer: a refusal "returns its number alone"; else how the vote stands, Won, Pending or Lost.
 abbrev pub resultUnless : Check → VoteResult → Verdict
 resultUnless k r = unless verdict.Refused k (verdict.Stands r)
 
@@ -31,11 +31,11 @@ resultUnless k r = unless verdict.Refused k (verdict.Stands r)
 abbrev pub matchIndex : List Peer → ℕ → ℕ
 matchIndex peers id = ackNumber (rowOf peers id .ack)
 
--- What each voter of a set has acknowledged, by the lent rows.
+-- What each voter of a set has acknowledged, by the lent rows: "a missing one counts as 0".
 abbrev pub acksOf : List Peer → Voters → List ℕ
 acksOf peers v = map (matchIndex peers) (votersOf v)
 
--- How each voter of a set has voted, by the lent rows.
+-- How each voter of a set has voted, by the lent rows: "a voter without a row is missing everywhere".
 abbrev pub votesOf : List Peer → Voters → List Vote
 votesOf peers v = map (λ id. rowOf peers id .vote) (votersOf v)
 
@@ -51,10 +51,10 @@ voteResult v peers = resultUnless (bothChecks (votersCheck v) (rowsCheck peers))
 abbrev pub plainValues : Rows → Voters → List ℕ
 plainValues r v = map (valueIn (idsOf r) (valuesOf r)) (votersOf v)
 
--- THE PROMISE of `committed_index_of`: as `committed_index`, over gathered rows.
+-- THE PROMISE of `committed_index_of`: as `committed_index`, "over plain values".
 unfoldable pub plainIndex : Voters → Rows → Committed
 plainIndex v r = indexUnless (bothChecks (votersCheck v) (plainCheck r)) (halfIndex (plainValues r v))
 
--- THE PROMISE of `vote_result_of`: as `vote_result`, over gathered rows.
+-- THE PROMISE of `vote_result_of`: as `vote_result`, "over plain values".
 unfoldable pub plainResult : Voters → Rows → Verdict
 plainResult v r = resultUnless (bothChecks (votersCheck v) (plainCheck r)) (numbersResult (plainValues r v))

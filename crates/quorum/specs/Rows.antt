@@ -19,7 +19,7 @@ use Rattle.quorum.specs.declared.rows.Rows.{Rows}
 abbrev pub nobody : Peer
 nobody = record { id = 0; ack = ack.Missing; vote = vote.Missing }
 
--- The id of a row.
+-- The id of a row. 01, "Where each language form goes": "a lent slice of peer structs, looked up by id".
 abbrev pub idOf : Peer → ℕ
 idOf p = p .id
 
@@ -42,7 +42,7 @@ voteNumber vote.No = 2
 abbrev pub rowsCheck : List Peer → Check
 rowsCheck peers = fineIf (fewDistinct (length peers) rowLimit (map idOf peers))
 
--- THE PROMISE of `value`: what a question reads of a row, as a number.
+-- THE PROMISE of `value`: what a question reads of a row, "its acknowledgement" or "its vote" (01, "State and stores"), as a number.
 abbrev pub valueFor : Question → Peer → ℕ
 valueFor question.Index p = ackNumber (p .ack)
 valueFor question.Vote p = voteNumber (p .vote)
@@ -51,11 +51,11 @@ valueFor question.Vote p = voteNumber (p .vote)
 abbrev pub gathered : Question → List Peer → Rows
 gathered q peers = record { ids = padded rowLimit (map idOf peers); values = padded rowLimit (map (valueFor q) peers); count = length peers }
 
--- The ids of rows in arrays: the first `count`.
+-- The ids of gathered rows: the first `count`. For refusal 12, "a repeated row id".
 abbrev pub idsOf : Rows → List ℕ
 idsOf r = take (r .count) (r .ids)
 
--- The values beside them.
+-- The values beside them: what the core "over plain values" reads.
 abbrev pub valuesOf : Rows → List ℕ
 valuesOf r = take (r .count) (r .values)
 

@@ -15,15 +15,15 @@ use Rattle.quorum.specs.declared.majority.Made.{Made}
 abbrev pub votersOf : Voters → List ℕ
 votersOf v = take (v .count) (v .ids)
 
--- THE PROMISE of `checked`. Refusal 12 of a voter set: "over 7 voters, a repeated voter id".
+-- THE PROMISE of `checked`; of `setOf`, that of `ids_checked`. Refusal 12 of a voter set: "over 7 voters, a repeated voter id".
 abbrev pub votersCheck : Voters → Check
 votersCheck v = fineIf (fewDistinct (v .count) voterLimit (votersOf v))
 
--- The set of a list of ids, in such an array: unused words are 0.
+-- THE PROMISE of `holding`: a list of ids as such an "array with a count". Unused words are 0; ids over the limit are counted and not kept.
 abbrev pub setOf : List ℕ → Voters
 setOf ids = record { ids = padded voterLimit ids; count = length ids }
 
--- THE PROMISE of `empty`: the set of nobody.
+-- THE PROMISE of `empty`: the set of nobody, 01's "empty set".
 abbrev pub noVoters : Voters
 noVoters = setOf []
 

@@ -20,30 +20,30 @@ tally voters said missing =
     (cond (leb (quorum voters) said) result.Won
     (cond (leb (quorum voters) (said + missing)) result.Pending result.Lost))
 
--- The vote is a yes.
+-- The vote is a yes. For "Won if yes reaches the quorum".
 abbrev pub isYes : Vote → Bool
 isYes vote.Missing = false
 isYes vote.Yes = true
 isYes vote.No = false
 
--- The vote is missing.
+-- The vote is missing. For "else Pending if yes plus missing reaches it".
 abbrev pub isMissing : Vote → Bool
 isMissing vote.Missing = true
 isMissing vote.Yes = false
 isMissing vote.No = false
 
--- The same, from the votes themselves.
+-- The same, from the votes themselves. 01: "its vote as missing, yes or no".
 abbrev pub resultOf : List Vote → VoteResult
 resultOf votes = tally (length votes) (count isYes votes) (count isMissing votes)
 
--- THE RULE. The ways in which a vote can end: each missing vote becomes a yes or a no, every other stays.
+-- THE RULE. The ways in which a vote can end: each missing vote becomes a yes or a no, every other stays. For `Sure` and `Hopeless`, 01's Won and Lost.
 pub data Ends : List Vote → List Bool → Type 0 where
   none : Ends [] []
   yea : {votes : List Vote} {ends : List Bool} → Ends votes ends → Ends (vote.Yes ∷ votes) (true ∷ ends)
   nay : {votes : List Vote} {ends : List Bool} → Ends votes ends → Ends (vote.No ∷ votes) (false ∷ ends)
   free : (b : Bool) {votes : List Vote} {ends : List Bool} → Ends votes ends → Ends (vote.Missing ∷ votes) (b ∷ ends)
 
--- How many have said yes in the end.
+-- How many have said yes in the end. For "yes reaches the quorum".
 abbrev pub yesIn : List Bool → ℕ
 yesIn ends = count (λ b. b) ends
 
@@ -55,7 +55,7 @@ Sure votes = (ends : List Bool) → Ends votes ends → quorum (length votes) �
 abbrev pub Hopeless : List Vote → Type 0
 Hopeless votes = (ends : List Bool) → Ends votes ends → yesIn ends < quorum (length votes)
 
--- 01, Joint: "Won if Won in both, Lost if Lost in either, else Pending."
+-- THE PROMISE of `joint_result`. 01, Joint: "Won if Won in both, Lost if Lost in either, else Pending."
 abbrev pub jointResult : VoteResult → VoteResult → VoteResult
 jointResult result.Won b = b
 jointResult result.Lost b = result.Lost

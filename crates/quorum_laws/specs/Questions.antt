@@ -30,7 +30,7 @@ JointWhole c peers = bothChecks (configCheck c) (rowsCheck peers) ≡ check.Fine
 abbrev pub Words : List ℕ → Type 0
 Words acks = Each (λ a. a ≤ wordMax) acks
 
--- Each in the rows is. 01: "A peer row holds its acknowledgement as missing or a number".
+-- Each acknowledgement in the rows is such a number. 01: "A peer row holds its acknowledgement as missing or a number".
 abbrev pub WordRows : List Peer → Type 0
 WordRows peers = Words (map (λ p. ackNumber (p .ack)) peers)
 

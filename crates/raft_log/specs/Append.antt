@@ -12,11 +12,11 @@ use Rattle.raft_log.specs.Words.{room, runCount, runTerm, firstFrom, put
 use Rattle.raft_log.specs.State.{lastOf, broken, termAt}
 use Rattle.raft_log.specs.Run.{misnumbered, zeroTermIn}
 
--- Record k of a run after idx has another term than the log at its index. Bodies are never compared.
+-- Record k of a run after idx has another term than the log at its index. "Bodies are never compared."
 abbrev pub differs : Log → List ℕ → List ℕ → ℕ → List ℕ → ℕ → Bool
 differs l settled pending idx run k = not (eqb (runTerm run k) (termAt l settled pending (idx + 1 + k)))
 
--- How many of a run's n records come before the first that differs; n where none does.
+-- How many of a run's n records come before "the first run record whose term differs from term(its index)"; n where none does.
 abbrev pub alikeBefore : Log → List ℕ → List ℕ → ℕ → List ℕ → ℕ → ℕ
 alikeBefore l settled pending idx run n = firstFrom (differs l settled pending idx run) 0 n
 
@@ -24,7 +24,7 @@ alikeBefore l settled pending idx run n = firstFrom (differs l settled pending i
 abbrev pub conflictOf : ℕ → ℕ → ℕ → ℕ
 conflictOf idx n k = cond (ltb k n) (idx + 1 + k) 0
 
--- The log with another offset, pending count and persisted.
+-- The log with another offset, pending count and persisted. For the cut, "offset becomes the conflict", and for `stable_entries`, "offset becomes i + 1".
 abbrev pub withPending : Log → ℕ → ℕ → ℕ → Log
 withPending l offset count persisted = record {
   start = l .start;
@@ -36,7 +36,7 @@ withPending l offset count persisted = record {
   applied = l .applied;
 }
 
--- The log with another committed.
+-- The log with another committed. For "Then committed becomes the larger of itself and min(commit, idx + count).", and for `commit_to` and `maybe_commit`.
 abbrev pub withCommitted : Log → ℕ → Log
 withCommitted l committed = record {
   start = l .start;
@@ -61,7 +61,7 @@ cutIf test l conflict last = cond test (cutLog l conflict last (min (l .persiste
 abbrev pub commitUp : Log → ℕ → ℕ → Log
 commitUp l commit last = withCommitted l (max (l .committed .0) (min commit last))
 
--- The log after the message, where k of its n records come before the first that differs.
+-- The log after the message, where k of its n records come before the first that differs: "records from there on are cut .. Then committed becomes the larger of itself and min(commit, idx + count)."
 abbrev pub afterMessage : Log → ℕ → ℕ → ℕ → ℕ → Log
 afterMessage l idx n k commit = commitUp (cutIf (ltb k n) l (idx + 1 + k) (idx + n)) commit (idx + n)
 
@@ -86,21 +86,21 @@ overfull after pending = ltb (room pending) (after .count)
 abbrev pub accepted : ℕ → ℕ → ℕ → Log → Appended
 accepted idx n k after = Done (indexOf (conflictOf idx n k)) (indexOf (idx + n)) after
 
--- The part of the table that reads no run and no store: n records, k of them before the first that differs.
+-- The part of the table that reads no word of a run or a store, 6 before 7 ("The lowest number wins"): n records, k of them before the first that differs.
 unfoldable pub decide : Log → List ℕ → ℕ → ℕ → ℕ → ℕ → Appended
 decide l pending idx commit n k =
     cond (cuts l idx n k) (Refused cutsCommitted)
     (cond (overfull (afterMessage l idx n k commit) pending) (Refused noRoom)
     (accepted idx n k (afterMessage l idx n k commit)))
 
--- The part of it that comes after the run's own checks: n is how many records the run has.
+-- The part of it that comes after the run's own checks, from "If term(idx) is the given term" on: n is how many records the run has.
 unfoldable pub matchRun : Log → List ℕ → List ℕ → ℕ → ℕ → ℕ → List ℕ → ℕ → Appended
 matchRun l settled pending idx term commit run n =
     cond (outside l idx term) (Refused outsideLog)
     (cond (mismatched l settled pending idx term) (Refused mismatch)
     (decide l pending idx commit n (alikeBefore l settled pending idx run n)))
 
--- THE PROMISE of `maybe_append`: the whole table, in document 01's order.
+-- THE PROMISE of `maybe_append(idx, term, commit, run)`: the whole table, in document 01's order: "The lowest number wins".
 unfoldable pub maybeAppend : Log → List ℕ → List ℕ → ℕ → ℕ → ℕ → List ℕ → Appended
 maybeAppend l settled pending idx term commit run =
     cond (broken l settled pending) (Refused brokenState)

@@ -14,7 +14,7 @@ use Rattle.raft_log.specs.Words.{storeTerm}
 use Rattle.raft_log.specs.State.{lastOf, broken, termAt}
 use Rattle.raft_log.specs.Append.{withCommitted, withPending}
 
--- The log with another applied.
+-- The log with another applied. For "`applied_to(i)` makes applied i".
 abbrev pub withApplied : Log → ℕ → Log
 withApplied l applied = record {
   start = l .start;
@@ -26,7 +26,7 @@ withApplied l applied = record {
   applied = indexOf applied;
 }
 
--- The log with another persisted.
+-- The log with another persisted. For `maybe_persist`: "then persisted is i".
 abbrev pub withPersisted : Log → ℕ → Log
 withPersisted l persisted = withPending l (l .offset .0) (l .count) persisted
 

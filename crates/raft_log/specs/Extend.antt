@@ -15,7 +15,7 @@ use Rattle.raft_log.specs.Run.{misnumbered, zeroTermIn}
 use Rattle.raft_log.specs.Append.{cutLog, overfull}
 use lib.ListN.{length}
 
--- The run's own first index.
+-- The run's "own first index".
 abbrev pub firstOf : List ℕ → ℕ
 firstOf run = runIndex run 0
 
@@ -39,7 +39,7 @@ leavesGap l first = ltb (lastOf l + 1) first
 abbrev pub startsPersisted : Log → ℕ → Bool
 startsPersisted l first = leb first (l .persisted .0)
 
--- A run that is not empty, from its first index on.
+-- A run that is not empty, from its first index on: "The lowest number wins, except that .. in `append` a gap (8) before 7".
 unfoldable pub extendFrom : Log → List ℕ → ℕ → ℕ → Extended
 extendFrom l pending first n =
     cond (startsCommitted l first) (Refused cutsCommitted)

@@ -30,20 +30,20 @@ firstIndex l settled pending = cond (broken l settled pending) (placed.Refused b
 unfoldable pub lastIndex : Log → List ℕ → List ℕ → Placed
 lastIndex l settled pending = cond (broken l settled pending) (placed.Refused brokenState) (placed.At (indexOf (lastOf l)))
 
--- THE PROMISE of `last_term`: the term there.
+-- THE PROMISE of `last_term`: the term there, 01's "last term" in `is_up_to_date`.
 unfoldable pub lastTerm : Log → List ℕ → List ℕ → Looked
 lastTerm l settled pending = cond (broken l settled pending) (looked.Refused brokenState) (looked.At (termOf (termAt l settled pending (lastOf l))))
 
--- The term at j is at most t.
+-- The term at j is at most t: "term(j) <= t".
 abbrev pub atMost : Log → List ℕ → List ℕ → ℕ → ℕ → Bool
 atMost l settled pending t j = leb (termAt l settled pending j) t
 
--- The largest number from i down that p holds of, 0 where it holds of none above.
+-- The largest number from i down that p holds of, 0 where it holds of none above. For "the largest j <= i with term(j) <= t".
 unfoldable pub lastDown : (ℕ → Bool) → ℕ → ℕ
 lastDown p zero = zero
 lastDown p (suc j) = cond (p (suc j)) (suc j) (lastDown p j)
 
--- j and its term.
+-- j and its term: "the largest j .. and that term".
 abbrev pub foundAt : Log → List ℕ → List ℕ → ℕ → ByTerm
 foundAt l settled pending j = byterm.Found (indexOf j) (termOf (termAt l settled pending j))
 
@@ -52,7 +52,7 @@ unfoldable pub byTermIn : Log → List ℕ → List ℕ → ℕ → ℕ → ByTe
 byTermIn l settled pending i t =
     cond (ltb (lastOf l) i) (byterm.Beyond (indexOf i)) (foundAt l settled pending (lastDown (atMost l settled pending t) i))
 
--- THE PROMISE of `find_conflict_by_term(i, t)`.
+-- THE PROMISE of `find_conflict_by_term(i, t)`: that, or 1: "state rules or store lengths broken".
 unfoldable pub findConflictByTerm : Log → List ℕ → List ℕ → ℕ → ℕ → ByTerm
 findConflictByTerm l settled pending i t = cond (broken l settled pending) (byterm.Refused brokenState) (byTermIn l settled pending i t)
 
@@ -60,7 +60,7 @@ findConflictByTerm l settled pending i t = cond (broken l settled pending) (byte
 abbrev pub upToDate : Log → List ℕ → List ℕ → ℕ → ℕ → Bool
 upToDate l settled pending i t = ltb (termAt l settled pending (lastOf l)) t || (eqb t (termAt l settled pending (lastOf l)) && leb (lastOf l) i)
 
--- THE PROMISE of `is_up_to_date(i, t)`.
+-- THE PROMISE of `is_up_to_date(i, t)`: that, or 1: "state rules or store lengths broken".
 unfoldable pub isUpToDate : Log → List ℕ → List ℕ → ℕ → ℕ → YesOrNo
 isUpToDate l settled pending i t = cond (broken l settled pending) (yes-or-no.Refused brokenState) (yes-or-no.Is (upToDate l settled pending i t))
 

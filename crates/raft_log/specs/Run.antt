@@ -10,11 +10,11 @@ use Rattle.raft_log.specs.declared.run.Checked.{Checked}
 use Rattle.raft_log.specs.declared.run.Checked.the-variants as checked
 use Rattle.raft_log.specs.Words.{runWords, runCount, runIndex, runTerm, none}
 
--- Record k does not have the index that its place after idx asks.
+-- Record k does not have the index that its place after idx asks: "indices not rising by one from idx + 1".
 abbrev pub misplaced : List ℕ → ℕ → ℕ → Bool
 misplaced run idx k = not (eqb (runIndex run k) (idx + 1 + k))
 
--- The term of record k is 0.
+-- The term of record k is 0: "a zero term in a run".
 abbrev pub zeroAt : List ℕ → ℕ → Bool
 zeroAt run k = eqb (runTerm run k) 0
 
@@ -25,11 +25,11 @@ numbered run idx =
     && leb (idx + runCount run) indexLimit
     && none (misplaced run idx) (runCount run)
 
--- Refusal 2 of a run after idx.
+-- Refusal 2 of a run after idx: a part of that line of the table holds.
 abbrev pub misnumbered : List ℕ → ℕ → Bool
 misnumbered run idx = not (numbered run idx)
 
--- No record of a run has term 0.
+-- No record of a run has term 0. For refusal 3, "a zero term in a run".
 unfoldable pub termsSet : List ℕ → Bool
 termsSet run = none (zeroAt run) (runCount run)
 
@@ -37,15 +37,15 @@ termsSet run = none (zeroAt run) (runCount run)
 abbrev pub zeroTermIn : List ℕ → Bool
 zeroTermIn run = not (termsSet run)
 
--- Inner: what the code's one pass over a run finds, as a number.
+-- Inner: what the code's one pass over a run finds, as a number: 2 before 3, since "The lowest number wins".
 unfoldable pub scanRun : List ℕ → ℕ → ℕ → ℕ
 scanRun run idx n = cond (none (misplaced run idx) n) (cond (none (zeroAt run) n) 0 zeroTerm) misnumberedRun
 
--- Inner: the check of a run, 2 before 3, or how many records it has.
+-- Inner: the check of a run, 2 before 3, since "The lowest number wins"; or how many records it has.
 unfoldable pub checkRun : List ℕ → ℕ → Checked
 checkRun run idx = cond (numbered run idx) (cond (termsSet run) (checked.Records (runCount run)) (checked.Refused zeroTerm)) (checked.Refused misnumberedRun)
 
--- Inner: the number of a check, 0 where it refuses nothing.
+-- Inner: the number of a check, 0 where it refuses nothing. 01: "Every refusal returns its number alone".
 abbrev pub refusedBy : Checked → ℕ
 refusedBy (checked.Records n) = 0
 refusedBy (checked.Refused number) = number

@@ -25,7 +25,7 @@ settledOverfull l settled = ltb (room settled) (lastOf l - l .start .0)
 abbrev pub isLast : Log → List ℕ → List ℕ → ℕ → ℕ → Bool
 isLast l settled pending i t = not (eqb (l .count) 0) && eqb i (lastOf l) && eqb (termAt l settled pending i) t
 
--- THE PROMISE of `stable_entries`.
+-- THE PROMISE of `stable_entries(i, t)`: 1, 7, then 10 ("The lowest number wins"), else the log above.
 unfoldable pub stableEntries : Log → List ℕ → List ℕ → ℕ → ℕ → Changed
 stableEntries l settled pending i t =
     cond (broken l settled pending) (changed.Refused brokenState)

@@ -23,7 +23,7 @@ fresh start startterm last = record {
   applied = indexOf start;
 }
 
--- What set-up is handed meets the state rules: "start index 0 exactly if start term 0", last not below start, within the limit, and settled long enough. Any pending store will do.
+-- What set-up is handed meets the state rules: "start index 0 exactly if start term 0"; else 1. "A last below start or above the limit is 1; a settled store too short is 1; any pending store will do" (open points).
 unfoldable pub setupOk : ℕ → ℕ → ℕ → List ℕ → Bool
 setupOk start startterm last settled =
     agree (eqb start 0) (eqb startterm 0)
@@ -31,7 +31,7 @@ setupOk start startterm last settled =
     && leb last indexLimit
     && leb (last - start) (room settled)
 
--- Record k of settled has term 0.
+-- Record k of settled has term 0: "a zero term .. in settled at set-up".
 abbrev pub zeroTermAt : List ℕ → ℕ → Bool
 zeroTermAt settled k = eqb (storeTerm settled k) 0
 

@@ -27,7 +27,7 @@ sliceIn l low high =
     (cond (leb low (l .start .0)) (bounds.Refused belowFirst)
     (cond (ltb (lastOf l + 1) high) (bounds.Refused outOfRange) (inStore l low high)))
 
--- THE PROMISE of `slice_bounds(low, high)`.
+-- THE PROMISE of `slice_bounds(low, high)`: "one call answers the refusal or the bounds".
 unfoldable pub sliceBounds : Log → List ℕ → List ℕ → ℕ → ℕ → Bounds
 sliceBounds l settled pending low high = cond (broken l settled pending) (bounds.Refused brokenState) (sliceIn l low high)
 
@@ -49,7 +49,7 @@ nextHigh l = min (l .committed .0) (l .persisted .0) + 1
 unfoldable pub hasNext : Log → ℕ → Bool
 hasNext l s = ltb s wordMax && ltb (nextLow l s) (nextHigh l)
 
--- THE PROMISE of `has_next_entries_since(s)`.
+-- THE PROMISE of `has_next_entries_since(s)`: that, or 1: "state rules or store lengths broken".
 unfoldable pub hasNextEntriesSince : Log → List ℕ → List ℕ → ℕ → YesOrNo
 hasNextEntriesSince l settled pending s = cond (broken l settled pending) (yes-or-no.Refused brokenState) (yes-or-no.Is (hasNext l s))
 

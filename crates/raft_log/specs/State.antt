@@ -13,7 +13,7 @@ use Rattle.raft_log.specs.Words.{room, storeTerm}
 abbrev pub lastOf : Log → ℕ
 lastOf l = l .offset .0 + l .count - 1
 
--- Two tests that agree.
+-- Two tests that agree. For "start index 0 exactly if start term 0".
 abbrev pub agree : Bool → Bool → Bool
 agree true b = b
 agree false b = not b
@@ -34,7 +34,7 @@ stateOk l settled pending =
     && leb (l .count) (room pending)
     && leb (lastOf l) indexLimit
 
--- The same rules as facts, one a line, which inner functions require.
+-- The same rules as facts, one a line, which inner functions require: 01's "State rules, checked at each call".
 pub record Good (l : Log) (settled pending : List ℕ) : Type 0 where
   pub starts : agree (eqb (l .start .0) 0) (eqb (l .startterm .0) 0) ≡ true
   pub start≤applied : l .start .0 ≤ l .applied .0

@@ -12,7 +12,7 @@ pub record Entry : Type 0 where
   pub term : ℕ
   pub body : ℕ
 
--- A record, by its term and its body.
+-- A record, by its term and its body. 01: "two words a record, term then body number".
 abbrev pub entry : ℕ → ℕ → Entry
 entry t b = record { term = t; body = b }
 
@@ -30,11 +30,11 @@ pub record Log : Type 0 where
 abbrev pub whole-list : List Entry → Log
 whole-list xs = record { start = 0; start-term = 0; entries = xs }
 
--- The n records of a list after its first k.
+-- The n records of a list after its first k. For what a leader sends, "messages cut from it" (the request), and for `slice`, which "gives a run from low" (01).
 abbrev pub records-after : List Entry → ℕ → ℕ → List Entry
 records-after entries k n = take n (drop k entries)
 
--- The index of the last record, the start's where there is none.
+-- The index of the last record, the start's where there is none: the last of 01's "[start, last]".
 abbrev pub last : Log → ℕ
 last l = l .start + length (l .entries)
 
@@ -48,11 +48,11 @@ entry-at l i =
 abbrev pub term-of : Log → ℕ → ℕ
 term-of l i = entry-at l i .term
 
--- The body at an index; 0 at the start and outside the log.
+-- The body at an index, 01's "body number"; 0 outside the log, and at the start, which is "compared by index and term alone".
 abbrev pub body-of : Log → ℕ → ℕ
 body-of l i = entry-at l i .body
 
--- The log has a record at i, its start among them.
+-- The log has a record at i, its start among them: 01, "the start counts as a held record".
 abbrev pub Holds : Log → ℕ → Type 0
 Holds l i = (l .start ≤ i) × (i ≤ last l)
 

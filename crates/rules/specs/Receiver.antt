@@ -19,7 +19,7 @@ pub data Answer : Type 0 where
   reply-false : Answer
   success : Log → ℕ → Answer
 
--- The log with these records after its start.
+-- The log with these records after its start. For steps 3 and 4, which delete and append records and leave the start.
 abbrev pub with-entries : Log → List Entry → Log
 with-entries l es = record { start = l .start; start-term = l .start-term; entries = es }
 
@@ -35,7 +35,7 @@ conflicts l i e = ltb (l .start) i && leb i (last l) && not (eqb (e .term) (term
 abbrev pub delete-from : Log → ℕ → Log
 delete-from l i = with-entries l (take (i - l .start - 1) (l .entries))
 
--- Step 3 for the new ones at i, i + 1, ..: the first that conflicts deletes, and then no later one has an existing entry to conflict with.
+-- Step 3, whole, for the new ones at i, i + 1, ..: the first that conflicts deletes "the existing entry and all that follow it", and then no later one has an existing entry to conflict with.
 unfoldable pub step-3 : Log → ℕ → List Entry → Log
 step-3 l i [] = l
 step-3 l i (e ∷ es) = cond (conflicts l i e) (delete-from l i) (step-3 l (i + 1) es)
@@ -48,11 +48,11 @@ step-4 l prev es = with-entries l (l .entries ++ drop (last l - prev) es)
 unfoldable pub step-5 : ℕ → ℕ → ℕ → ℕ
 step-5 commit-index leader-commit last-new = cond (ltb commit-index leader-commit) (min leader-commit last-new) commit-index
 
--- The index of the last new entry; prevLogIndex where there is none.
+-- Step 5's "index of last new entry"; prevLogIndex where there is none.
 abbrev pub last-new : Message → ℕ
 last-new m = m .prev-log-index + length (m .entries)
 
--- THE STEPS, in order: "reply false" by step 2, else what the other steps leave.
+-- THE STEPS, in order: "Reply false" by step 2, else what the other steps leave.
 unfoldable pub receiver : Log → ℕ → Message → Answer
 receiver l commit-index m =
     cond (contains l (m .prev-log-index) (m .prev-log-term))

@@ -12,39 +12,39 @@ use Rattle.two_ends.specs.Follower.{Follower, held, committed, Message, 
 use Rattle.two_ends.specs.Leader.{cut}
 use Rattle.two_ends.specs.TwoEnds.{Premises, Possible, Accepts}
 
--- What may happen besides: all that demand 3 lets happen, the leader's other messages late or repeated among it. None carries a larger commit number: the leader's only rises.
+-- What may happen besides: all that demand 3 lets happen, the leader's other messages late or "repeated" among it. None carries a larger commit number: the leader's only rises.
 abbrev pub Besides : List Entry → ℕ → List Event → Type 0
 Besides xs commit [] = Unit {0}
 Besides xs commit (arrives m ∷ es) = Possible xs m × (m .commit ≤ commit) × Besides xs commit es
 Besides xs commit (between b ∷ es) = Besides xs commit es
 
--- One round: a message with the next `count` records (none, for a heartbeat), and what happens besides before the next one: the follower settles, say, which frees room.
+-- One round of "send the follower all of the leader's entries after that point": a message with the next `count` records (none, for a heartbeat), and what happens besides before the next one: the follower settles, say, which frees room.
 pub record Round (xs : List Entry) (commit : ℕ) : Type 0 where
   pub count : ℕ
   pub others : List Event
   pub besides : Besides xs commit others
 
 module _ {xs : List Entry} {commit : ℕ} where
-  -- How many records the rounds send.
+  -- How many records the rounds send. For "all of the leader's entries after that point".
   unfoldable pub total : List (Round xs commit) → ℕ
   total [] = 0
   total (r ∷ rs) = r .count + total rs
 
-  -- The round's message, where the records up to idx have been sent.
+  -- The round's message, where the records up to idx have been sent: one of the "messages cut from it".
   abbrev pub next : ℕ → Round xs commit → Message
   next idx r = cut xs idx (r .count) commit
 
-  -- All that happens in the rounds from there on.
+  -- All that happens in the rounds from there on. For `CatchUp`.
   unfoldable pub sending : ℕ → List (Round xs commit) → List Event
   sending idx [] = []
   sending idx (r ∷ rs) = arrives (next idx r) ∷ r .others ++ sending (idx + r .count) rs
 
-  -- P holds of each round's message and of the follower that it comes to.
+  -- P holds of each round's message and of the follower that it comes to. For `CatchUp`: it "has room", and accepts.
   unfoldable pub AtEach : (Follower → Message → Type 0) → Receiver → Follower → ℕ → List (Round xs commit) → Type 0
   AtEach P rcv f idx [] = Unit {0}
   AtEach P rcv f idx (r ∷ rs) = P f (next idx r) × AtEach P rcv (follow rcv f (arrives (next idx r) ∷ r .others)) (idx + r .count) rs
 
--- What has come of a follower that was f and is g.
+-- What has come of a follower that was f and is g: it "holds exactly the leader's records".
 pub record CaughtUp (xs : List Entry) (commit : ℕ) (f g : Follower) : Type 0 where
   -- the leader's whole list: from its start on, exactly the leader's records, to the last
   pub holds : Agree (held g) (whole-list xs) (length xs)
@@ -54,7 +54,7 @@ pub record CaughtUp (xs : List Entry) (commit : ℕ) (f g : Follower) : Type 0 w
   pub commits : committed g ≡ max (committed f) (min commit (length xs))
   pub as-leader : committed f ≤ commit → commit ≤ length xs → committed g ≡ commit
 
--- THE STATEMENT, for a receiver: the rounds send all that is left, and there is room for each message; then each is accepted, naming its last index, and the follower has caught up.
+-- THE STATEMENT, for a receiver: the rounds "send the follower all of the leader's entries after that point", and there is room for each message; then each is accepted, naming its last index, and the follower has caught up.
 unfoldable pub CatchUp : Receiver → Type 0
 CatchUp rcv =
     (xs : List Entry) (f : Follower) → Premises xs f → (commit : ℕ) (rounds : List (Round xs commit))

@@ -28,30 +28,30 @@ pub record Follower : Type 0 where
   pub settled : List ℕ
   pub pending : List ℕ
 
--- The records that it holds, as a list after its start.
+-- The records that it holds, as a list after its start: "all that the follower holds".
 abbrev pub held : Follower → Abstract
 held f = view-of (f .log) (f .settled) (f .pending)
 
--- How far it holds its records as committed.
+-- How far it holds its records as committed: "all that the follower holds as committed".
 abbrev pub committed : Follower → ℕ
 committed f = f .log .committed .0
 
--- The state after an answer of `maybe_append`: the one it carries; where it carries none, nothing changed.
+-- The state after an answer of `maybe_append`: the one it carries; where it carries none, nothing changed. 01: "Every refusal returns its number alone and changes nothing."
 abbrev pub logAppended : Appended → Log → Log
 logAppended (appended.Done conflict last after) before = after
 logAppended (appended.Refused number) before = before
 
--- The state after an answer of `append`.
+-- The state after an answer of `append`, likewise.
 abbrev pub logExtended : Extended → Log → Log
 logExtended (extended.Last last after) before = after
 logExtended (extended.Refused number) before = before
 
--- The state after an answer of `commit_to`, `applied_to` or `stable_entries`.
+-- The state after an answer of `commit_to`, `applied_to` or `stable_entries`, likewise.
 abbrev pub logChanged : Changed → Log → Log
 logChanged (changed.Now after) before = after
 logChanged (changed.Refused number) before = before
 
--- The state after an answer of `maybe_commit` or `maybe_persist`.
+-- The state after an answer of `maybe_commit` or `maybe_persist`, likewise; a no carries none either.
 abbrev pub logDecided : Decided → Log → Log
 logDecided (decided.Yes after) before = after
 logDecided decided.No before = before
@@ -59,14 +59,14 @@ logDecided (decided.Refused number) before = before
 
 -- ---- a message arrives
 
--- As `maybe_append` is handed it: the run is words, (index, term, body) triples where it is well-formed.
+-- As `maybe_append(idx, term, commit, run)` is handed it: the run is words, "(index, term, body) triples" where it is well-formed.
 pub record Message : Type 0 where
   pub idx : ℕ
   pub term : ℕ
   pub commit : ℕ
   pub run : List ℕ
 
--- The message's last index: idx + count.
+-- "the message's last index": idx + count.
 abbrev pub last-index : Message → ℕ
 last-index m = m .idx + runCount (m .run)
 
@@ -74,28 +74,28 @@ last-index m = m .idx + runCount (m .run)
 abbrev pub WellFormed : Message → Type 0
 WellFormed m = (misnumbered (m .run) (m .idx) ≡ false) × (zeroTermIn (m .run) ≡ false)
 
--- What comes of a message: the answer, and the follower after it.
+-- What comes of a message: the answer, which "names the message's last index", and what "the follower then holds".
 pub record Outcome : Type 0 where
   pub answer : Appended
   pub follower : Follower
 
--- A way to take a message in. The promise is stated of any, and proved of the engine's.
+-- A way to take a message in. The promise is stated of any, and proved of the engine's: "An engine that turns everything down .. has to be caught by these promises."
 abbrev pub Receiver : Type 0
 Receiver = Follower → Message → Outcome
 
--- The answer that `maybe_append` promises.
+-- The answer that `maybe_append` promises: "conflict and idx + count", or the refusal.
 abbrev pub answer-to : Follower → Message → Appended
 answer-to f m = maybeAppend (f .log) (f .settled) (f .pending) (m .idx) (m .term) (m .commit) (m .run)
 
--- An answer, and the follower after it: its pending store is the one that `maybe_append` promises beside that answer.
+-- An answer, and the follower after it: its pending store is the one that `maybe_append` promises beside that answer, where "every other word stays".
 abbrev pub outcome-of : Follower → Message → Appended → Outcome
 outcome-of f m a = record { answer = a; follower = record { log = logAppended a (f .log); settled = f .settled; pending = maybeAppendStore a (f .pending) (m .idx) (m .run) } }
 
--- THE ENGINE'S way to take a message in: what `maybe_append` promises.
+-- THE ENGINE'S way to take a message in: what `maybe_append` promises. Demand 3 is proved of it.
 unfoldable pub engine : Receiver
 engine f m = outcome-of f m (answer-to f m)
 
--- So many of the message's records come before the first that differs from what is held.
+-- How many of the message's records come before "the first run record whose term differs" from what is held. For `HasRoom`.
 abbrev pub alike : Follower → Message → ℕ
 alike f m = alikeBefore (f .log) (f .settled) (f .pending) (m .idx) (m .run) (runCount (m .run))
 
@@ -105,7 +105,7 @@ HasRoom f m = overfull (afterMessage (f .log) (m .idx) (runCount (m .run)) (alik
 
 -- ---- what the follower does between messages: "the follower only reads, settles, persists and applies", by any arguments
 
--- What it may do. The arguments of a call are any numbers; that the call is refused is one of the things that may happen.
+-- What it may do: "reads, settles, persists and applies". The arguments of a call are any numbers; that the call is refused is one of the things that may happen.
 pub data Between : Type 0 where
   -- stable_entries(i, t)
   settles : ℕ → ℕ → Between
@@ -116,15 +116,15 @@ pub data Between : Type 0 where
   -- any call that answers no log: they take the state by value and the stores to read
   reads : Between
 
--- The follower with another state and the same stores.
+-- The follower with another state and the same stores, for the calls that write none: "every other word stays".
 abbrev pub with-log : Follower → Log → Follower
 with-log f l = record { log = l; settled = f .settled; pending = f .pending }
 
--- After `stable_entries`, whose answer is a.
+-- After `stable_entries`, whose answer is a: "pending is copied to settled".
 abbrev pub settled-by : Follower → Changed → Follower
 settled-by f a = record { log = logChanged a (f .log); settled = stableEntriesStore a (f .log) (f .settled) (f .pending); pending = f .pending }
 
--- The follower after what it does.
+-- The follower after what it does: it "settles, persists and applies", or reads and stays as it is.
 unfoldable pub does : Follower → Between → Follower
 does f (settles i t) = settled-by f (stableEntries (f .log) (f .settled) (f .pending) i t)
 does f (persists i t) = with-log f (logDecided (maybePersist (f .log) (f .settled) (f .pending) i t) (f .log))
@@ -133,28 +133,28 @@ does f reads = f
 
 -- ---- what happens at the follower, and the follower after it, the first first
 
--- A message arrives, or the follower does something between two.
+-- A message arrives, or the follower does something "between them".
 pub data Event : Type 0 where
   arrives : Message → Event
   between : Between → Event
 
--- The follower after one event.
+-- The follower after one event: "messages .. reach a follower", and "between them" it does one thing more.
 abbrev pub step : Receiver → Follower → Event → Follower
 step rcv f (arrives m) = rcv f m .follower
 step rcv f (between b) = does f b
 
--- The follower after several events, the first first.
+-- The follower after several events, the first first. For "and keeps them", which speaks of all that comes later.
 unfoldable pub follow : Receiver → Follower → List Event → Follower
 follow rcv f [] = f
 follow rcv f (e ∷ es) = follow rcv (step rcv f e) es
 
 -- ---- "a log that set-up and these calls made" (01): reachable by `new` and the calls of raft_log
 
--- After `append`, whose answer is a.
+-- After `append`, whose answer is a: its pending store is the one that `append` promises beside it, where "every other word stays".
 abbrev pub extended-by : Follower → List ℕ → Extended → Follower
 extended-by f run a = record { log = logExtended a (f .log); settled = f .settled; pending = appendRunStore a (f .pending) run }
 
--- What set-up makes, and what each call makes of what was made; the calls that only look change nothing.
+-- "a log that set-up and these calls made": what set-up makes, and what each call makes of what was made; the calls that only look change nothing.
 pub data Made : Follower → Type 0 where
   set-up : (start startterm last : ℕ) (settled pending : List ℕ) (l : Log) → newLog start startterm last settled ≡ changed.Now l → Made (record { log = l; settled = settled; pending = pending })
   by-maybe-append : (f : Follower) → Made f → (m : Message) → Made (engine f m .follower)

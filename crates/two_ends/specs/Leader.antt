@@ -6,12 +6,12 @@ use lib.ListN.{length}
 use Rattle.rules.specs.Log.{Entry, whole-list, records-after, term-of}
 use Rattle.two_ends.specs.Follower.{Message}
 
--- Records as a run, the first at index i.
+-- Records as a run, the first at index i: "(index, term, body) triples".
 unfoldable pub as-run : ℕ → List Entry → List ℕ
 as-run i [] = []
 as-run i (e ∷ es) = i ∷ e .term ∷ e .body ∷ as-run (i + 1) es
 
--- The message with the n records after idx, and any commit number. The previous term at idx 0 is 0.
+-- The request's "messages cut from it": the n records after idx, and any commit number. The previous term at idx 0 is 0: "(0,0) comes before every list".
 unfoldable pub cut : List Entry → ℕ → ℕ → ℕ → Message
 cut xs idx n commit = record { idx = idx; term = term-of (whole-list xs) idx; commit = commit; run = as-run (idx + 1) (records-after xs idx n) }
 

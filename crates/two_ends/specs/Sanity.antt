@@ -20,11 +20,11 @@ use Rattle.two_ends.specs.Leader.{cut}
 
 -- ---- two ends
 
--- A leader's list: terms 1, 1, 2, 2.
+-- A "whole list from index 1": records 1 to 4, of terms 1, 1, 2, 2 and bodies 11 to 14.
 abbrev pub leader : List Entry
 leader = entry 1 11 ∷ entry 1 12 ∷ entry 2 13 ∷ entry 2 14 ∷ []
 
--- A log that starts with (0, 0) and has applied 1, but for the four numbers that a message moves.
+-- A log that starts with (0, 0) and has applied 1, by the four numbers that a message moves: offset, count, committed, persisted.
 abbrev pub log-with : ℕ → ℕ → ℕ → ℕ → Log
 log-with offset count committed persisted = record {
   start = indexOf 0;
@@ -36,41 +36,41 @@ log-with offset count committed persisted = record {
   applied = indexOf 1;
 }
 
--- The words of a follower whose third record is another leader's: (1, 99), persisted, where the leader has (2, 13).
+-- The words of a follower whose third record is another leader's: (1, 99), where the leader has (2, 13); and room for one record more.
 abbrev pub settled-words : List ℕ
 settled-words = 1 ∷ 11 ∷ 1 ∷ 12 ∷ 1 ∷ 99 ∷ 0 ∷ 0 ∷ []
 
--- The follower that has these settled.
+-- The follower that has these settled, committed up to 1 and persisted up to 3, and nothing pending; old words in its pending store.
 abbrev pub follower : Follower
 follower = record { log = log-with 4 0 1 3; settled = settled-words; pending = 1 ∷ 99 ∷ 0 ∷ 0 ∷ [] }
 
--- One that starts with the leader's second record, (2, 1), and has the same third.
+-- One that starts with the leader's second record, (2, 1), and has that other third record settled.
 abbrev pub late : Follower
 late = record { log = fresh 2 1 3; settled = 1 ∷ 99 ∷ []; pending = 0 ∷ 0 ∷ 0 ∷ 0 ∷ [] }
 
--- A message of the leader's: its third record.
+-- A message of the leader's: its third record, commit number 9.
 abbrev pub third : Message
 third = cut leader 2 1 9
 
--- A message of the leader's: its third and fourth record.
+-- A message of the leader's: its third and fourth record, commit number 0.
 abbrev pub third-and-fourth : Message
 third-and-fourth = cut leader 2 2 0
 
--- A message of the leader's: no record after the first, committed up to 3.
+-- A message of the leader's: no record after the first, commit number 3.
 abbrev pub heartbeat : Message
 heartbeat = cut leader 1 0 3
 
--- A message of the leader's: no record after (0, 0).
+-- A message of the leader's: no record after (0, 0), commit number 0.
 abbrev pub from-zero : Message
 from-zero = cut leader 0 0 0
 
--- What the engine must make of the follower by `third`: the conflict is below offset, so pending is the leader's third record alone, and persisted falls.
+-- What the engine must make of the follower by `third`. 01: "if the conflict is below offset, pending is cleared and offset becomes the conflict; persisted becomes the smaller of itself and conflict - 1".
 abbrev pub corrected : Follower
 corrected = record { log = log-with 3 1 3 2; settled = settled-words; pending = 2 ∷ 13 ∷ 0 ∷ 0 ∷ [] }
 
 -- ---- wrong receivers
 
--- Another answer where the engine accepts; its refusals stay.
+-- Another answer where the engine accepts; its refusals stay. For the wrong receivers below.
 abbrev pub accepting : (Index → Index → Log → Appended) → Appended → Appended
 accepting other (Done conflict last after) = other conflict last after
 accepting other (Refused number) = Refused number
@@ -83,20 +83,20 @@ refuses-all f m = outcome-of f m (Refused mismatch)
 abbrev pub stores-nothing : Receiver
 stores-nothing f m = outcome-of f m (accepting (λ conflict last after. Done (indexOf 0) last (f .log)) (answer-to f m))
 
--- Cuts after idx on every message that is accepted, also where its run matches.
+-- 01: "one that cuts on every message": after idx, also where its run matches.
 abbrev pub cuts-always : Receiver
 cuts-always f m =
     outcome-of f m (accepting (λ conflict last after. Done (indexOf (m .idx + 1)) last (commitUp (cutIf true (f .log) (m .idx + 1) (last .0)) (m .commit) (last .0))) (answer-to f m))
 
--- Commits to the message's commit number, without the minimum.
+-- 01, tempting mistakes: "committing to `commit` without the minimum".
 abbrev pub commits-blindly : Receiver
 commits-blindly f m = outcome-of f m (accepting (λ conflict last after. Done conflict last (withCommitted after (max (committed f) (m .commit)))) (answer-to f m))
 
--- Leaves persisted where it was on a conflict.
+-- Leaves persisted where it was on a conflict, without "persisted becomes the smaller of itself and conflict - 1".
 abbrev pub persisted-stays : Receiver
 persisted-stays f m = outcome-of f m (accepting (λ conflict last after. Done conflict last (withPersisted after (f .log .persisted .0))) (answer-to f m))
 
--- Does not give 4: the table of `maybeAppend` without that line.
+-- Does not give 4, "previous term 0 and idx outside [start, last]": the table of `maybeAppend` without that line.
 abbrev pub no-refusal-4 : Receiver
 no-refusal-4 f m =
     outcome-of f m

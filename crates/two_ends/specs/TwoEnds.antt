@@ -42,11 +42,11 @@ Trace xs (between b ∷ es) = Trace xs es
 abbrev pub HoldsPrevious : Follower → Message → Type 0
 HoldsPrevious f m = Holds (held f) (m .idx) × (term-of (held f) (m .idx) ≡ m .term)
 
--- The message is accepted, and the answer names the index k.
+-- The message is accepted, and the answer names the index k: "Each acceptance names the message's last index".
 abbrev pub Accepts : Outcome → ℕ → Type 0
 Accepts o k = (conflict : Index) × (named : Index) × (after : Log) × (o .answer ≡ appended.Done conflict named after) × (named .0 ≡ k)
 
--- What is promised of a follower that is `now`, whatever the message m.
+-- What is promised of a follower that is `now`, whatever the message m; the request's words stand beside the parts.
 pub record OfMessage (rcv : Receiver) (xs : List Entry) (now : Follower) (m : Message) : Type 0 where
   -- "a well-formed message is accepted exactly when the follower holds its previous record with that term and has room. Each acceptance names the message's last index"
   pub accepts : CutFrom xs m → ((k : ℕ) × Accepts (rcv now m) k) ↔ (HoldsPrevious now m × HasRoom now m)
@@ -59,7 +59,7 @@ pub record OfMessage (rcv : Receiver) (xs : List Entry) (now : Follower) (m : Me
   pub well-formed : CutFrom xs m → WellFormed m
   pub malformed : (WellFormed m → ⊥) → (rcv now m .answer ≡ appended.Refused misnumberedRun) ⊎ (rcv now m .answer ≡ appended.Refused zeroTerm)
 
--- What is promised of a follower that is `now`, and `later` after more of the same.
+-- What is promised of a follower that is `now`, and `later` after more of the same; the request's words stand beside the parts.
 pub record Keeps (xs : List Entry) (now later : Follower) : Type 0 where
   -- "Committed never falls, ..
   pub rises : committed now ≤ committed later
@@ -69,7 +69,7 @@ pub record Keeps (xs : List Entry) (now later : Follower) : Type 0 where
   pub keeps : (k : ℕ) → Agree (held now) (whole-list xs) k → Agree (held later) (whole-list xs) k
   pub same-start : (held later .start ≡ held now .start) × (held later .start-term ≡ held now .start-term)
 
--- THE PROMISE, of a follower that begins as f: after any events `es`, and then any further events `fs`.
+-- THE PROMISE, of a follower that begins as f: after any events `es`, and then any further events `fs`; the request's words stand beside the parts.
 pub record TwoEnds (rcv : Receiver) (xs : List Entry) (f : Follower) : Type 0 where
   -- the state rules hold throughout (so refusal 1, whose test this is in every call, is never given), and no held record has term 0
   pub state-rules : (es : List Event) → Trace xs es → broken (follow rcv f es .log) (follow rcv f es .settled) (follow rcv f es .pending) ≡ false
@@ -82,7 +82,7 @@ pub record TwoEnds (rcv : Receiver) (xs : List Entry) (f : Follower) : Type 0 wh
       → (fs : List Event) → Trace xs fs → Agree (held (follow rcv (rcv (follow rcv f es) m .follower) fs)) (whole-list xs) k
   pub ever-after : (es : List Event) → Trace xs es → (fs : List Event) → Trace xs fs → Keeps xs (follow rcv f es) (follow rcv (follow rcv f es) fs)
 
--- The theorem's statement, for a receiver. It is proved of `engine` in proofs/Main.antt.
+-- The theorem's statement, for a receiver: demand 3, "At the start .. Then a well-formed message is accepted exactly when ..". It is proved of `engine` in proofs/Main.antt.
 unfoldable pub Theorem : Receiver → Type 0
 Theorem rcv = (xs : List Entry) (f : Follower) → Premises xs f → TwoEnds rcv xs f
 

@@ -13,7 +13,7 @@ use Rattle.two_ends.specs.Follower.{Follower, held, Message, WellFormed,
 use Rattle.two_ends.specs.Leader.{cut, CutFrom}
 use Rattle.two_ends.specs.TwoEnds.{Premises, Trace, Accepts, OfMessage, Keeps}
 
--- The two ends and the line between them.
+-- The two ends and the line between them: "One leader has a whole list ..; messages cut from it reach a follower".
 pub record World : Type 0 where
   -- "One leader has a whole list from index 1"
   pub list : List Entry
@@ -22,7 +22,7 @@ pub record World : Type 0 where
   -- "reach a follower"
   pub follower : Follower
 
--- What may happen to them.
+-- What may happen to them, each beside its words of the request.
 pub data Happening : Type 0 where
   -- the list "only grows": records come at its end
   grows : List Entry → Happening
@@ -31,30 +31,30 @@ pub data Happening : Type 0 where
   -- something happens at the follower: a message arrives, "and between them the follower only reads, settles, persists and applies"
   meets : Event → Happening
 
--- The world after it. What is sent is cut from the list as it then is.
+-- The world after it. What is sent is cut from the list as it then is: one "that only grows; messages cut from it".
 unfoldable pub next : Receiver → World → Happening → World
 next rcv w (grows es) = record { list = w .list ++ es; sent = w .sent; follower = w .follower }
 next rcv w (sends idx n commit) = record { list = w .list; sent = cut (w .list) idx n commit ∷ w .sent; follower = w .follower }
 next rcv w (meets e) = record { list = w .list; sent = w .sent; follower = step rcv (w .follower) e }
 
--- When it can happen: the leader sends only what its list has; what arrives was sent, or is malformed; all else at any time.
+-- When it can happen: the leader sends only what its list has, "messages cut from it"; what arrives was sent, or is malformed; all else at any time.
 unfoldable pub May : World → Happening → Type 0
 May w (grows es) = Unit {0}
 May w (sends idx n commit) = idx + n ≤ length (w .list)
 May w (meets (arrives m)) = List·Memᴰ m (w .sent) ⊎ (WellFormed m → ⊥)
 May w (meets (between b)) = Unit {0}
 
--- The world after several, the first first.
+-- The world after several, the first first. For "all that the list ever comes to hold".
 unfoldable pub history : Receiver → World → List Happening → World
 history rcv w [] = w
 history rcv w (h ∷ hs) = history rcv (next rcv w h) hs
 
--- Each of them can happen when its turn comes.
+-- Each of them can happen when its turn comes: messages arrive "lost, repeated or in any order".
 unfoldable pub History : Receiver → World → List Happening → Type 0
 History rcv w [] = Unit {0}
 History rcv w (h ∷ hs) = May w h × History rcv (next rcv w h) hs
 
--- Every message on the line is cut from the list.
+-- Every message on the line is one of the "messages cut from it".
 abbrev pub AllCut : List Entry → List Message → Type 0
 AllCut xs sent = (m : Message) → List·Memᴰ m sent → CutFrom xs m
 
@@ -83,10 +83,10 @@ TheoremInTime rcv =
     let xs = history rcv later ks .list in
     History rcv w hs → History rcv now gs → History rcv later ks → Premises xs (w .follower) → InTime rcv xs (now .sent) (now .follower) (later .follower) gs
 
--- The events es happen, from w on, in some history in which the list becomes xs.
+-- The events es happen, from w on, in some history in which the list becomes xs: "all that the list ever comes to hold".
 abbrev pub Happens : Receiver → World → List Entry → List Event → Type 0
 Happens rcv w xs es = (hs : List Happening) × History rcv w hs × (history rcv w hs .list ≡ xs) × (history rcv w hs .follower ≡ follow rcv (w .follower) es)
 
--- Nor does time leave anything out: from any world, whatever ys its list is to grow by, each trace of TwoEnds.antt over the grown list happens in some history.
+-- Nor does time leave anything out ("lost, repeated or in any order"): from any world, whatever ys its list is to grow by, each trace of TwoEnds.antt over the grown list happens in some history.
 unfoldable pub EveryTraceHappens : Receiver → Type 0
 EveryTraceHappens rcv = (w : World) (ys : List Entry) (es : List Event) → Trace (w .list ++ ys) es → Happens rcv w (w .list ++ ys) es

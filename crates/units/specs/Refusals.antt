@@ -58,7 +58,7 @@ brokenSet = 12
 abbrev pub brokenWindow : ℕ
 brokenWindow = 13
 
--- THE PROMISE of `refusal`: the number that a check refuses by, 0 where it finds nothing wrong.
+-- THE PROMISE of `refusal`: the number that a check refuses by, 0 where it finds nothing wrong. 01: "Every refusal returns its number alone and changes nothing."
 abbrev pub refusalOf : Check → ℕ
 refusalOf check.Fine = 0
 refusalOf (check.Refused n) = n
@@ -68,7 +68,7 @@ abbrev pub bothChecks : Check → Check → Check
 bothChecks check.Fine next = next
 bothChecks (check.Refused n) next = check.Refused n
 
--- A rule that holds, or the refusal of its number.
+-- The check of one rule: nothing wrong where it holds, else the refusal of its number, which is "Given exactly when" the rule is broken.
 abbrev pub fineOr : Bool → ℕ → Check
 fineOr holds n = cond holds check.Fine (check.Refused n)
 
@@ -77,6 +77,6 @@ abbrev pub unless : {A : Type 0} → (ℕ → A) → Check → A → A
 unless refused check.Fine answer = answer
 unless refused (check.Refused n) answer = refused n
 
--- Document 01's values for each case of a yes-or-no answer: the refusal's number alone, or whether it is so.
+-- Document 01's values for each case of a yes-or-no answer: a refusal "returns its number alone"; else yes or no.
 abbrev pub isUnless : Check → Bool → YesOrNo
 isUnless k b = unless yes-or-no.Refused k (yes-or-no.Is b)

@@ -3,7 +3,7 @@ use Prim.Native.Nat.{ℕ, _^_, _-_}
 use Rattle.units.specs.declared.Index.{Index}
 use Rattle.units.specs.declared.Term.{Term}
 
--- The largest number of 64 bits, u64::MAX.
+-- u64::MAX, the largest number of 64 bits. 01, Majority: "An empty set gives (u64::MAX, true)"; `has_next_entries_since`: "For s = u64::MAX we answer no (added)."
 abbrev pub wordMax : ℕ
 wordMax = 2 ^ 64 - 1
 
@@ -15,6 +15,6 @@ indexLimit = 2 ^ 64 - 2
 abbrev pub indexOf : ℕ → Index
 indexOf n = record { 0 = n }
 
--- THE PROMISE of `Term::new`: the term that a number stands for.
+-- THE PROMISE of `Term::new`: the term that a number stands for. 01, "State and stores": "the two are separate types".
 abbrev pub termOf : ℕ → Term
 termOf n = record { 0 = n }
