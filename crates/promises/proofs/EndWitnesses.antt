@@ -28,7 +28,7 @@ use Rattle.two_ends.proofs.Cuts.{sent-cut}
 use Rattle.two_ends.proofs.Main.{two-ends}
 use Rattle.two_ends.proofs.World.{none-sent, in-time}
 use Rattle.two_ends.proofs.CatchUp.{catch-up}
-use Rattle.two_ends.proofs.Sanity.{concrete, follower-premises, late-premises, third-cut}
+use Rattle.two_ends.proofs.Sanity.{concrete, follower-premises, late-premises, third-cut, heartbeat-cut}
 use Rattle.majority_holds.specs.MajorityHolds.{Acknowledged, Honest, HoldsUpTo, HeldByMajority, HeldByHalves, MayCount}
 use Rattle.majority_holds.proofs.Main.{acknowledged-holds}
 use Rattle.promises.specs.Cases.{acking}
@@ -156,8 +156,7 @@ keeps-not k = omega (arith, k .rises)
 pub differ : NeverDiffer commits-blindly → ⊥
 unfolding NeverDiffer concrete
 differ never =
-    let none : CutFrom leader heartbeat = record { count = 0; inside = lit≤ tt; is = refl } in
-    let same = never leader follower follower follower-premises follower-premises (arrives heartbeat ∷ []) (arrives third ∷ []) (inl none, tt) (inl third-cut, tt) 3 (lit≤ tt) (lit≤ tt) (lit≤ tt) (lit≤ tt) in
+    let same = never leader follower follower follower-premises follower-premises (arrives heartbeat ∷ []) (arrives third ∷ []) (inl heartbeat-cut, tt) (inl third-cut, tt) 3 (lit≤ tt) (lit≤ tt) (lit≤ tt) (lit≤ tt) in
     let t = same .terms in
     omega arith
 

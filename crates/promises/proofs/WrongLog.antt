@@ -7,6 +7,7 @@ use Rattle.raft_log.specs.declared.Extended.{Extended}
 use Rattle.raft_log.specs.declared.Decided.{Decided}
 use Rattle.raft_log.specs.declared.Bounds.{Bounds}
 use Rattle.leader.specs.Leader.{leaderCommit}
+use Rattle.two_ends.specs.Follower.{Follower, Message, Outcome as Taken, engine}
 use Rattle.exports.specs.Words.{Outcome, yesOrNoLeaves}
 use Rattle.exports.specs.Reads.{lookedLeaves, placedLeaves, infoLeaves, byTermLeaves, boundsLeaves}
 use Rattle.exports.specs.LogCalls.{appendedLeaves, extendedLeaves, changedLeaves, decidedLeaves}
@@ -89,19 +90,25 @@ wrong-log = record {
   commit-found-nobody-commits-all = apart-as decided refl;
 }
 
--- An engine's answer.
-abbrev answer : Appended × List ℕ → Outcome
-answer left = appended (left .0)
+-- What a receiver answers.
+abbrev answer : Taken → Outcome
+answer left = appended (left .answer)
+
+-- A as a follower, and a message to it.
+abbrev followerA : Follower
+followerA = record { log = logA; settled = settledA; pending = pendingA }
+
+abbrev to-A : ℕ → ℕ → ℕ → List ℕ → Message
+to-A idx term commit run = record { idx = idx; term = term; commit = commit; run = run }
 
 pub wrong-engines-log : WrongEnginesLog
-unfolding log-promises
+unfolding log-promises engine
 wrong-engines-log = record {
-  own-parts = λ l settled pending idx term commit run. refl;
-  always-5 = λ same. apart-as answer refl (same logA settledA pendingA 5 3 9 []);
-  stores-nothing = λ same. apart-as answer refl (same logA settledA pendingA 3 2 4 message);
-  cuts-always = λ same. apart-as answer refl (same logA settledA pendingA 2 1 0 (3 ∷ 2 ∷ 6 ∷ []));
-  cuts-behind-match = λ same. apart-as answer refl (same logA settledA pendingA 2 1 0 (3 ∷ 2 ∷ 6 ∷ []));
-  zero-is-absent = λ same. apart-as answer refl (same logA settledA pendingA 0 0 0 (1 ∷ 1 ∷ 6 ∷ []));
-  commits-blindly = λ same. apart-as answer refl (same logA settledA pendingA 5 3 9 []);
-  lowers-persisted = λ same. apart-as answer refl (same logA settledA pendingA 2 1 0 (3 ∷ 2 ∷ 6 ∷ []));
+  always-5 = λ same. apart-as answer refl (same followerA (to-A 5 3 9 []));
+  stores-nothing = λ same. apart-as answer refl (same followerA (to-A 3 2 4 message));
+  cuts-always = λ same. apart-as answer refl (same followerA (to-A 2 1 0 (3 ∷ 2 ∷ 6 ∷ [])));
+  cuts-behind-match = λ same. apart-as answer refl (same followerA (to-A 2 1 0 (3 ∷ 2 ∷ 6 ∷ [])));
+  zero-is-absent = λ same. apart-as answer refl (same followerA (to-A 0 0 0 (1 ∷ 1 ∷ 6 ∷ [])));
+  commits-blindly = λ same. apart-as answer refl (same followerA (to-A 5 3 9 []));
+  lowers-persisted = λ same. apart-as answer refl (same followerA (to-A 2 1 0 (3 ∷ 2 ∷ 6 ∷ [])));
 }

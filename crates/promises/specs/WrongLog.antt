@@ -1,32 +1,27 @@
 -- What the promises of the log (crates raft_log and leader) rule out: for each call answers that a faulty engine would give, and the wrong engines and tempting mistakes of document 01 that concern the log.
 -- A reader must know: a line says that the promise's answer, at the input beside it, is not the wrong one; a refusal is written by its name. Each holds by computing both sides (proofs/WrongLog.antt).
-use Prim.Native.Nat.{ℕ, _+_, min, max}
+use Prim.Native.Nat.{ℕ}
 use mathlib.Core.Path.{_≡_}
 use mathlib.Core.Logic.{_≢_}
-use mathlib.Core.Bool.{Bool, true, false, _||_, cond}
+use mathlib.Core.Bool.{true, false}
 use mathlib.Core.List.{List, [], _∷_, _++_}
-use lib.Dec.{eqb}
 use Rattle.units.specs.Units.{wordMax, indexOf, termOf}
-use Rattle.units.specs.Refusals.{brokenState, misnumberedRun, zeroTerm, outsideLog, mismatch, cutsCommitted, noRoom, outOfRange, brokenSet}
+use Rattle.units.specs.Refusals.{mismatch, outOfRange, brokenSet}
 use Rattle.units.specs.declared.YesOrNo.the-variants as yes-or-no
 use Rattle.raft_log.specs.declared.Log.{Log}
 use Rattle.raft_log.specs.declared.Looked.the-variants as looked
 use Rattle.raft_log.specs.declared.Placed.the-variants as placed
 use Rattle.raft_log.specs.declared.Info.the-variants as info
 use Rattle.raft_log.specs.declared.ByTerm.the-variants as byterm
-use Rattle.raft_log.specs.declared.Appended.{Appended}
 use Rattle.raft_log.specs.declared.Appended.the-variants as appended
 use Rattle.raft_log.specs.declared.Extended.the-variants as extended
 use Rattle.raft_log.specs.declared.Changed.the-variants as changed
 use Rattle.raft_log.specs.declared.Decided.the-variants as decided
 use Rattle.raft_log.specs.declared.Bounds.{Bounds}
 use Rattle.raft_log.specs.declared.Bounds.the-variants as bounds
-use Rattle.raft_log.specs.Words.{runCount}
-use Rattle.raft_log.specs.State.{broken}
-use Rattle.raft_log.specs.Run.{misnumbered, zeroTermIn}
-use Rattle.raft_log.specs.Append.{withCommitted, cutIf, afterMessage, outside, mismatched, cuts, overfull, accepted, maybeAppend, maybeAppendStore, alikeBefore}
+use Rattle.raft_log.specs.Append.{withCommitted, maybeAppend, maybeAppendStore}
 use Rattle.raft_log.specs.Extend.{appendRun, appendRunStore}
-use Rattle.raft_log.specs.Commit.{withApplied, withPersisted, commitTo, appliedTo, maybeCommit, maybePersist}
+use Rattle.raft_log.specs.Commit.{withApplied, commitTo, appliedTo, maybeCommit, maybePersist}
 use Rattle.raft_log.specs.Settle.{stableEntries, stableEntriesStore}
 use Rattle.raft_log.specs.Look.{lookTerm, firstIndex, lastIndex, lastTerm, commitInfo, isUpToDate, findConflictByTerm}
 use Rattle.raft_log.specs.Slice.{sliceBounds, entriesBounds, hasNextEntriesSince, nextEntriesBoundsSince, partOf}
@@ -36,7 +31,9 @@ use Rattle.quorum.specs.Voters.{setOf}
 use Rattle.quorum.specs.declared.Committed.the-variants as question
 use Rattle.quorum.specs.declared.joint.JointConfig.{JointConfig}
 use Rattle.leader.specs.Leader.{commitFound, leaderCommit}
+use Rattle.two_ends.specs.Follower.{Follower, Message, Receiver, engine}
 use Rattle.two_ends.specs.Sanity.{log-with}
+use Rattle.two_ends.specs.Sanity as wrong
 use Rattle.promises.specs.Cases.{logA, allCommittedA, settledA, pendingA, message, taken, found, threeVoters, acking}
 
 -- ---- the inputs
@@ -186,100 +183,25 @@ pub record WrongLog : Type 0 where
   -- `commit_found` where nobody has a say (u64::MAX): the whole log is committed.
   pub commit-found-nobody-commits-all : onA commitFound 3 (question.At (indexOf wordMax) true) ≢ decided.Yes allCommittedA
 
--- ---- the wrong engines and mistakes of 01 that concern the log, each a whole definition: but for the first, the promise of `maybe_append` with one of its parts replaced
+-- ---- the wrong engines and mistakes of 01 that concern the log, each a whole receiver of two_ends: the promise of `maybe_append` with one thing wrong
 
--- A way to take a message in: from the log, its two stores, idx, term, commit and the run, the answer and the pending store after it. For 01's wrong engines, "The promises catch: an append that always gives 5" and so on.
-abbrev pub Engine : Type 0
-Engine = Log → List ℕ → List ℕ → ℕ → ℕ → ℕ → List ℕ → Appended × List ℕ
+-- A receiver does not leave what is promised of every message to every log. 01: "The promises catch: an append that always gives 5" and so on.
+abbrev pub Differs : Receiver → Type 0
+Differs wrong = ¬ ((f : Follower) (m : Message) → engine f m ≡ wrong f m)
 
--- An answer, and the pending store that `maybe_append` promises beside it.
-abbrev pub stored : List ℕ → ℕ → List ℕ → Appended → Appended × List ℕ
-stored pending idx run said = (said, maybeAppendStore said pending idx run)
-
--- THE PROMISE of `maybe_append`, as an engine.
-abbrev pub promised : Engine
-promised l settled pending idx term commit run = stored pending idx run (maybeAppend l settled pending idx term commit run)
-
-module _ (l : Log) (settled pending : List ℕ) (idx term commit : ℕ) (run : List ℕ) where
-  -- Its table with three parts open: whether the previous record is another, how many of the run's records are held, and the log after the message.
-  abbrev pub answerWith : Bool → ℕ → Log → Appended × List ℕ
-  answerWith isAnother held after =
-      stored pending idx run
-      (cond (broken l settled pending) (appended.Refused brokenState)
-      (cond (misnumbered run idx) (appended.Refused misnumberedRun)
-      (cond (zeroTermIn run) (appended.Refused zeroTerm)
-      (cond (outside l idx term) (appended.Refused outsideLog)
-      (cond isAnother (appended.Refused mismatch)
-      (cond (cuts l idx (runCount run) held) (appended.Refused cutsCommitted)
-      (cond (overfull after pending) (appended.Refused noRoom)
-      (accepted idx (runCount run) held after))))))))
-
-  -- The promise's own first part: the previous record is another, "doesn't match" (5).
-  abbrev pub another : Bool
-  another = mismatched l settled pending idx term
-
-  -- Its second: how many of the run's records come before "the first run record whose term differs".
-  abbrev pub alike : ℕ
-  alike = alikeBefore l settled pending idx run (runCount run)
-
-  -- Its third: the log after the message, by how many records are held.
-  abbrev pub afterHeld : ℕ → Log
-  afterHeld held = afterMessage l idx (runCount run) held commit
-
-  -- The table with these three parts, which is the promise (`own-parts`, below).
-  abbrev pub withOwnParts : Appended × List ℕ
-  withOwnParts = answerWith another alike (afterHeld alike)
-
-  -- "an append that always gives 5"
-  abbrev pub always5 : Appended × List ℕ
-  always5 = stored pending idx run (appended.Refused mismatch)
-
-  -- "one that says (0, idx + count) and stores nothing": every run counts as held.
-  abbrev pub storesNothing : Appended × List ℕ
-  storesNothing = answerWith another (runCount run) (afterHeld (runCount run))
-
-  -- "one that cuts on every message": no record counts as held.
-  abbrev pub cutsAlways : Appended × List ℕ
-  cutsAlways = answerWith another 0 (afterHeld 0)
-
-  -- "cutting everything after idx when the run already matches": only the run's records stay.
-  abbrev pub cutsBehindMatch : Appended × List ℕ
-  cutsBehindMatch = answerWith another alike (cutIf (eqb alike (runCount run)) (afterHeld alike) (idx + runCount run + 1) (idx + runCount run))
-
-  -- "taking term 0 as "absent, so no match" in ordinary lookups": the previous record is then another.
-  abbrev pub zeroIsAbsent : Appended × List ℕ
-  zeroIsAbsent = answerWith (eqb term 0 || another) alike (afterHeld alike)
-
-  -- "committing to `commit` without the minimum"
-  abbrev pub commitsBlindly : Appended × List ℕ
-  commitsBlindly = answerWith another alike (withCommitted (afterHeld alike) (max (l .committed .0) commit))
-
-  -- "lowering persisted when there is no conflict": to idx, as if the first record were one.
-  abbrev pub lowersPersisted : Appended × List ℕ
-  lowersPersisted = answerWith another alike (withPersisted (afterHeld alike) (min (l .persisted .0) idx))
-
--- Two engines leave the same of every message to every log.
-abbrev pub Same : Engine → Engine → Type 0
-Same one other = (l : Log) (settled pending : List ℕ) (idx term commit : ℕ) (run : List ℕ) → one l settled pending idx term commit run ≡ other l settled pending idx term commit run
-
--- An engine does not leave what is promised.
-abbrev pub Differs : Engine → Type 0
-Differs wrong = ¬ Same promised wrong
-
--- With its own three parts the table is the promise; with one replaced it is not, by what it makes of one message to A.
+-- By what each makes of one message to A.
 pub record WrongEnginesLog : Type 0 where
-  pub own-parts : Same promised withOwnParts
   -- idx 5, term 3, empty, commit 9
-  pub always-5 : Differs always5
+  pub always-5 : Differs wrong.refuses-all
   -- idx 3, term 2, records (4,2),(5,4),(6,4), commit 4
-  pub stores-nothing : Differs storesNothing
+  pub stores-nothing : Differs wrong.stores-nothing
   -- idx 2, term 1, record (3,2), commit 0: "(0, 3), nothing cut"
-  pub cuts-always : Differs cutsAlways
+  pub cuts-always : Differs wrong.cuts-always
   -- the same
-  pub cuts-behind-match : Differs cutsBehindMatch
+  pub cuts-behind-match : Differs wrong.cuts-behind-match
   -- idx 0, term 0, record (1,1), commit 0: the start (0,0) is held
-  pub zero-is-absent : Differs zeroIsAbsent
+  pub zero-is-absent : Differs wrong.zero-is-absent
   -- idx 5, term 3, empty, commit 9
-  pub commits-blindly : Differs commitsBlindly
+  pub commits-blindly : Differs wrong.commits-blindly
   -- idx 2, term 1, record (3,2), commit 0
-  pub lowers-persisted : Differs lowersPersisted
+  pub lowers-persisted : Differs wrong.lowers-persisted

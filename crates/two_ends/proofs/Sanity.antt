@@ -24,7 +24,7 @@ use Rattle.log_laws.specs.Keep.{NonzeroTerms}
 use Rattle.two_ends.specs.Follower.{Follower, held, Message, engine, settles, persists, applies, does, follow, Made, set-up, by-maybe-append, by-between}
 use Rattle.two_ends.specs.Leader.{as-run, cut, CutFrom}
 use Rattle.two_ends.specs.TwoEnds.{Premises}
-use Rattle.two_ends.specs.Sanity.{leader, follower, late, third, from-zero, corrected}
+use Rattle.two_ends.specs.Sanity.{leader, follower, late, third, third-and-fourth, heartbeat, from-zero, corrected}
 use Rattle.two_ends.proofs.Agreeing.{agree-down}
 
 -- What the concrete facts compute through, all of it: to name this on an `unfolding` line is to open each.
@@ -121,11 +121,23 @@ late-premises = record {
   leader-limit = lit≤ tt;
 }
 
--- ---- a message of the leader's
+-- ---- messages of the leader's
 
 pub third-cut : CutFrom leader third
 unfolding concrete
 third-cut = record { count = 1; inside = lit≤ tt; is = refl }
+
+pub third-and-fourth-cut : CutFrom leader third-and-fourth
+unfolding concrete
+third-and-fourth-cut = record { count = 2; inside = lit≤ tt; is = refl }
+
+pub heartbeat-cut : CutFrom leader heartbeat
+unfolding concrete
+heartbeat-cut = record { count = 0; inside = lit≤ tt; is = refl }
+
+pub from-zero-cut : CutFrom leader from-zero
+unfolding concrete
+from-zero-cut = record { count = 0; inside = lit≤ tt; is = refl }
 
 -- The engine reports the conflict at 3, names 3, and has the leader's third record in place of the other.
 pub third-received : engine follower third ≡ record { answer = Done (indexOf 3) (indexOf 3) (corrected .log); follower = corrected }

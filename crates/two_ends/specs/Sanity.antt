@@ -1,7 +1,8 @@
 -- Two ends to try the promise on, and receivers that must not keep it. A reader must know: each of these is the engine with one thing wrong; that `Theorem` fails of it is proved in proofs/Wrong.antt.
-use Prim.Native.Nat.{ℕ, _+_, max}
+use Prim.Native.Nat.{ℕ, _+_, min, max}
 use mathlib.Core.Bool.{true, cond}
 use mathlib.Core.List.{List, [], _∷_}
+use lib.Dec.{eqb}
 use Rattle.units.specs.Units.{indexOf, termOf}
 use Rattle.units.specs.Refusals.{brokenState, misnumberedRun, zeroTerm, mismatch}
 use Rattle.units.specs.declared.Index.{Index}
@@ -91,6 +92,19 @@ cuts-always f m =
 -- 01, tempting mistakes: "committing to `commit` without the minimum".
 abbrev pub commits-blindly : Receiver
 commits-blindly f m = outcome-of f m (accepting (λ conflict last after. Done conflict last (withCommitted after (max (committed f) (m .commit)))) (answer-to f m))
+
+-- 01, tempting mistakes: "cutting everything after idx when the run already matches": only the run's records stay.
+abbrev pub cuts-behind-match : Receiver
+cuts-behind-match f m =
+    outcome-of f m (accepting (λ conflict last after. Done conflict last (cutIf (eqb (alike f m) (runCount (m .run))) after (last .0 + 1) (last .0))) (answer-to f m))
+
+-- 01, tempting mistakes: "taking term 0 as "absent, so no match" in ordinary lookups": the previous record is then another (5).
+abbrev pub zero-is-absent : Receiver
+zero-is-absent f m = outcome-of f m (accepting (λ conflict last after. cond (eqb (m .term) 0) (Refused mismatch) (Done conflict last after)) (answer-to f m))
+
+-- 01, tempting mistakes: "lowering persisted when there is no conflict": to idx, as if the first record were one.
+abbrev pub lowers-persisted : Receiver
+lowers-persisted f m = outcome-of f m (accepting (λ conflict last after. Done conflict last (withPersisted after (min (f .log .persisted .0) (m .idx)))) (answer-to f m))
 
 -- Leaves persisted where it was on a conflict, without "persisted becomes the smaller of itself and conflict - 1".
 abbrev pub persisted-stays : Receiver
