@@ -1,5 +1,5 @@
 -- What the leader's commit step amounts to: it commits only what the paper's rule allows, answers no only where the joint index is not such a one, and refuses exactly by 1, then 12.
-use Prim.Native.Nat.{ℕ, _≤_, _<_}
+use Prim.Native.Nat.{ℕ}
 use mathlib.Core.Path.{_≡_, refl, sym, ap, subst, _∙_}
 use mathlib.Core.Bool.{Bool, true, false, cond}
 use mathlib.Core.List.{List}
@@ -23,7 +23,7 @@ use Rattle.quorum.specs.declared.rows.Peer.{Peer}
 use Rattle.quorum_laws.specs.Questions.{JointWhole}
 use Rattle.quorum_laws.proofs.Joint.{half-backs}
 use Rattle.quorum_laws.proofs.Answers.{joint-index-refused}
-use Rattle.raft_log.specs.State.{lastOf, broken, termAt}
+use Rattle.raft_log.specs.State.{broken}
 use Rattle.raft_log.specs.Append.{withCommitted}
 use Rattle.raft_log.specs.Commit.{mayCommit, maybeCommit}
 use Rattle.raft_log.specs.declared.Log.{Log}
@@ -32,27 +32,6 @@ use Rattle.raft_log.specs.declared.Decided.the-variants as decided
 use Rattle.raft_log.proofs.States.{split}
 use Rattle.leader.specs.Leader.{commitFound, leaderCommit}
 use Rattle.leader.specs.Rule.{MayCommit}
-
-module _ (l : Log) (settled pending : List ℕ) (term : ℕ) where
-  -- the log's own step says yes
-  pub record Yes (n : ℕ) (after : Log) : Type 0 where
-    pub higher : l .committed .0 < n
-    pub held : n ≤ lastOf l
-    pub own-term : termAt l settled pending n ≡ term
-    pub is : after ≡ withCommitted l n
-
-  yes-then : (n : ℕ) (after : Log) → maybeCommit l settled pending n term ≡ decided.Yes after → Yes n after
-  unfolding maybeCommit
-  yes-then n after e =
-      let may = taken (mayCommit l settled pending n term) (λ h. never cc) (past (broken l settled pending) (λ h. never cc) e .1) in
-      let all = split _ _ (may .0) in
-      let bounds = split _ _ (all .0) in
-      record {
-        higher = ltb-true _ _ (bounds .0);
-        held = leb-true _ _ (bounds .1);
-        own-term = eqb-true _ _ (all .1);
-        is = cc (may .1);
-      }
 
 -- a refusal is the log's own, or the answer's
 by-state : (b : Bool) (a : Decided) (n : ℕ) → cond b (decided.Refused brokenState) a ≡ decided.Refused n → ((b ≡ true) × (n ≡ brokenState)) ⊎ (a ≡ decided.Refused n)
@@ -69,20 +48,24 @@ module _ (l : Log) (settled pending : List ℕ) (term : ℕ) (config : JointConf
   -- THE THEOREM: what it commits, a majority of every nonempty half has acknowledged, and it is of the leader's own term.
   pub commits-by-the-rule : (after : Log) → leaderCommit l settled pending term config peers ≡ decided.Yes after
       → (after ≡ withCommitted l (after .committed .0)) × MayCommit l settled pending term config peers (after .committed .0)
-  unfolding leaderCommit jointIndex
+  unfolding leaderCommit jointIndex maybeCommit
   commits-by-the-rule after e =
       let n = in-both .index in
-      let y = yes-then l settled pending term n after (by-check (bothChecks (configCheck config) (rowsCheck peers)) after e) in
-      let same : after .committed .0 ≡ n = ap (λ (a : Log). a .committed .0) (y .is) in
+      let granted = by-check (bothChecks (configCheck config) (rowsCheck peers)) after e in
+      let may = taken (mayCommit l settled pending n term) (λ h. never cc) (past (broken l settled pending) (λ h. never cc) granted .1) in
+      let is : after ≡ withCommitted l n = cc (may .1) in
+      let all = split _ _ (may .0) in
+      let bounds = split _ _ (all .0) in
+      let same : after .committed .0 ≡ n = ap (λ (a : Log). a .committed .0) is in
       let rule : MayCommit l settled pending term config peers n =
       record {
-        higher = y .higher;
-        held = y .held;
-        own-term = y .own-term;
+        higher = ltb-true _ _ (bounds .0);
+        held = leb-true _ _ (bounds .1);
+        own-term = eqb-true _ _ (all .1);
         by-incoming = half-backs (acksOf peers (config .incoming)) n (omega arith);
         by-outgoing = half-backs (acksOf peers (config .outgoing)) n (omega arith);
       } in
-      (y .is ∙ ap (withCommitted l) (sym same), subst (MayCommit l settled pending term config peers) (sym same) rule)
+      (is ∙ ap (withCommitted l) (sym same), subst (MayCommit l settled pending term config peers) (sym same) rule)
 
   -- refused by the number n
   abbrev Refuses : ℕ → Type 0

@@ -44,7 +44,7 @@ use denote.Triple.Statement.{Triple}
 use denote.Triple.Entry.{alive, onEntry}
 use denote.Triple.Table.{framed, cited}
 use denote.Triple.Walked.{needs}
-use borrow.Table.Elements.{length-take-le, cut-app, join-app}
+use borrow.Table.Elements.{cut-app, join-app}
 use borrow.Rule.Array.Rows.{partsF, restF}
 use borrow.Rule.Array.Share.{room-take, shared-back}
 use borrow.Rule.Slice.Shared.{parts-cells}
@@ -56,6 +56,7 @@ use Rattle.units.proofs.ByValue.{ByValue, of-struct, Value, At, fits-at, made}
 use Rattle.units.proofs.Exact.{Promise, Exact, calls, Params, valued, End, ends}
 use Rattle.units.proofs.Exact as exact
 use Rattle.quorum.proofs.OverRows.{Lent, of-two, asked}
+use Rattle.quorum.proofs.Front.{front}
 use Rattle.peer_tables.specs.Table.{rowsIn}
 use Rattle.peer_tables.specs.declared.Table.{Table}
 use Rattle.peer_tables.proofs.Sizes.{peers-length}
@@ -180,7 +181,7 @@ module _ {M : Type 1} (𝓤 : URA M) (H : Heap 𝓤) (A : Atoms 𝓤) (W : Given
         assigns ! (of-opd ! (load ! (from ! (fld ! refl (stop !))) (look-in ! 8 (sub ! 1 refl (whole !))))) (from ! (stop !)) (init ! 4 refl (tt, record { fits = count-fits })) $
         assigns ! (addr ! (from ! (stop !))) (from ! (stop !)) (init ! 2 refl (tt, tt)) $
         assigns ! (agg ! (and-then ! (load ! (from ! (stop !)) (look ! 2 refl)) (and-then ! (load ! (from ! (stop !)) (look ! 4 refl)) (no-more !)))) (from ! (stop !)) (init ! 0 refl (tt, (tt, (record { fits = count-fits }, tt)))) $
-        rewrite ! 0 (λ (k : ℕ). ‵ (fat fullShare (sliceTy (tyRef erased imm (pointee (Pe.the-row .written)))) l₆ 0 (sliceVal (l₃, 0) k))) (sym counted) refl $
+        rewrite ! 0 (λ (k : ℕ). ‵ (fat fullShare (sliceTy (tyRef erased imm (pointee (Pe.the-row .written)))) l₆ 0 (sliceVal (l₃, 0) k))) counted refl $
         -- the first rows are lent for a lifetime ν of the call
         move ! (6 ∷ []) $ use1 W (‵ (Front 𝓤 H A W l₃ (t .count) (t .peers)) ⊛ ‵ (Back 𝓤 H A W l₃ (t .count) (t .peers))) (rows-apart 𝓤 H A W l₃ (t .count) (t .peers) is) $ split ! $
         lft-new ! tt (λ ν. move ! (1 ∷ []) $
@@ -210,8 +211,8 @@ module _ {M : Type 1} (𝓤 : URA M) (H : Heap 𝓤) (A : Atoms 𝓤) (W : Given
         count-fits : t .count < 2 ^ 64
         count-fits = omega arith
 
-        counted : length (rowsIn t) ≡ t .count
-        counted = length-take-le (t .count) (t .peers) (omega (arith, peers-length t at-t))
+        counted : t .count ≡ length (rowsIn t)
+        counted = front (t .peers) (t .count) (peers-length t at-t) few .counted
 
         room : Room Pe.the-row (length (rowsIn t))
         room = room-take Pe.the-row rowLimit (t .count) (t .peers) (peers-length t at-t) (lit< tt, lit< tt)

@@ -8,12 +8,11 @@ use mathlib.Core.Logic.{inl, ⊎-elim}
 use native.Mathlib.Omega.{arith}
 use lib.Dec.{lit<, lit≤}
 use lib.ListN.{getD}
+use Rattle.units.specs.Lists.{listed}
 use Rattle.rules.specs.Count.{count}
 use Rattle.rules.specs.Log.{entry, whole-list, records-after, Same, Matching, Agree}
 use Rattle.rules.proofs.Count.{count-none, count-miss}
 use Rattle.quorum.specs.Ids.{position, has, distinct}
-use Rattle.quorum.specs.Voters.{setOf}
-use Rattle.quorum.specs.Joint.{oneSet}
 use Rattle.raft_log.specs.Settle.{stableEntries, stableEntriesStore}
 use Rattle.two_ends.specs.Follower.{Follower, held, Message, WellFormed, engine, HasRoom, settles, does, arrives, between, follow, Made}
 use Rattle.two_ends.specs.Leader.{as-run, cut, CutFrom}
@@ -31,7 +30,7 @@ use Rattle.two_ends.proofs.CatchUp.{catch-up}
 use Rattle.two_ends.proofs.Sanity.{concrete, follower-premises, late-premises, third-cut, heartbeat-cut}
 use Rattle.majority_holds.specs.MajorityHolds.{Acknowledged, Honest, HoldsUpTo, HeldByMajority, HeldByHalves, MayCount}
 use Rattle.majority_holds.proofs.Main.{acknowledged-holds}
-use Rattle.promises.specs.Cases.{acking}
+use Rattle.promises.specs.Cases.{idsFrom, threeVoters, acking}
 use Rattle.units.proofs.Never.{never}
 
 -- ---- two logs
@@ -247,19 +246,17 @@ pub may-not-count : MayCount leader (λ id. late) (acking (3 ∷ [])) → ⊥
 unfolding concrete position
 may-not-count m = holds-not-up-to (m .counted-held 1 (lit< tt))
 
-abbrev three : List ℕ
-three = 1 ∷ 2 ∷ 3 ∷ []
-
-pub held-by-majority : HeldByMajority leader (λ id. late) three 2
-unfolding position has distinct count
+pub held-by-majority : HeldByMajority leader (λ id. late) (idsFrom 1 3) 2
+unfolding listed position has distinct count
 held-by-majority = record { none-twice = refl; holder = λ id. true; enough = lit≤ tt; hold = λ id h. holds-up-to }
 
-pub not-held-by-majority : HeldByMajority leader (λ id. late) three 3 → ⊥
-unfolding count
+pub not-held-by-majority : HeldByMajority leader (λ id. late) (idsFrom 1 3) 3 → ⊥
+unfolding listed count
 not-held-by-majority m =
     let holds-none : (id : ℕ) → m .holder id ≡ false = λ id. refuted (m .holder id) (λ h. holds-not-up-to (m .hold id h)) in
     let h = m .enough in
     omega (arith, count-miss (m .holder) 1 (2 ∷ 3 ∷ []) (holds-none 1), count-miss (m .holder) 2 (3 ∷ []) (holds-none 2), count-miss (m .holder) 3 [] (holds-none 3), count-none (m .holder))
 
-pub not-held-by-halves : HeldByHalves leader (λ id. late) (oneSet (setOf three)) 3 → ⊥
+pub not-held-by-halves : HeldByHalves leader (λ id. late) threeVoters 3 → ⊥
+unfolding listed
 not-held-by-halves h = not-held-by-majority (h .by-incoming (lit< tt))

@@ -70,7 +70,7 @@ use Rattle.exports.specs.LogCalls.{newLogLeaves}
 use Rattle.exports.specs.Results.{Tells}
 use Rattle.exports.proofs.Results.{log-new-tells}
 use Rattle.two_ends.specs.Sanity.{log-with}
-use Rattle.promises.specs.Cases.{logA, settledA, pendingA, votersFrom, acking, threeAndTwo, window, old, flown}
+use Rattle.promises.specs.Cases.{logA, settledA, pendingA, message, votersFrom, idTwice, acking, threeAndTwo, window, old, flown}
 use Rattle.promises.proofs.Apart.{log-promises, quorum-promises, window-promises}
 
 -- ---- majorities
@@ -219,7 +219,7 @@ pub whole : Whole (votersFrom 1 5) (acking five)
 unfolding quorum-promises
 whole = refl
 
-pub not-whole : Whole (setOf (1 ∷ 1 ∷ [])) [] → ⊥
+pub not-whole : Whole (setOf idTwice) [] → ⊥
 unfolding quorum-promises
 not-whole w = never cc
 
@@ -396,19 +396,15 @@ sets-up = ok-sets-up 0 0 3 settledA refl
 pub not-sets-up : Sets-up 0 1 3 settledA → ⊥
 not-sets-up s = never (cc (s .starts))
 
--- "idx 3, term 2, records (4,2),(5,4),(6,4)"
-abbrev run-4 : List ℕ
-run-4 = 4 ∷ 2 ∷ 6 ∷ 5 ∷ 4 ∷ 7 ∷ 6 ∷ 4 ∷ 8 ∷ []
-
-pub passed : Passed run-4 3 3
+pub passed : Passed message 3 3
 unfolding logs checkRun
-passed = run-passed run-4 3 refl
+passed = run-passed message 3 refl
 
-pub not-rises : Rises run-4 4 → ⊥
+pub not-rises : Rises message 4 → ⊥
 unfolding logs
 not-rises r = let z : _≡_ {A = ℕ} 0 3 = r .placed in omega arith
 
-pub held-before : Held logA settledA pendingA 3 run-4 3
+pub held-before : Held logA settledA pendingA 3 message 3
 unfolding logs
 held-before = record { good = good-A; within = (lit≤ tt, lit≤ tt); set = refl }
 
@@ -417,7 +413,7 @@ not-held-before h = omega (arith, h .within .1)
 
 pub cut : Cut 4 3 3 (indexOf 5) (indexOf 6) (log-with 4 3 4 3)
 unfolding logs
-cut = answer-cut logA settledA pendingA 3 2 4 run-4 refl (λ e. omega arith)
+cut = answer-cut logA settledA pendingA 3 2 4 message refl (λ e. omega arith)
 
 pub not-cut : Cut 4 3 3 (indexOf 0) (indexOf 6) (log-with 4 3 4 3) → ⊥
 not-cut c = omega (arith, c .follows)

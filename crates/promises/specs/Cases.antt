@@ -89,6 +89,18 @@ votersFrom id n = setOf (idsFrom id n)
 abbrev pub threeVoters : JointConfig
 threeVoters = oneSet (votersFrom 1 3)
 
+-- An id that stands twice: refusal 12, "a repeated voter id".
+abbrev pub idTwice : List ℕ
+idTwice = 1 ∷ 1 ∷ []
+
+-- The configuration of such a voter, nobody outgoing.
+abbrev pub voterTwice : JointConfig
+voterTwice = oneSet (setOf idTwice)
+
+-- A configuration by its halves: incoming, then outgoing.
+abbrev pub halves : Voters → Voters → JointConfig
+halves incoming outgoing = record { incoming = incoming; outgoing = outgoing }
+
 -- Rows that say these things, one each, whose ids rise from this one on.
 abbrev pub rowsFrom : {A : Type 0} → (ℕ → A → Peer) → ℕ → List A → List Peer
 rowsFrom row id [] = []
@@ -116,7 +128,7 @@ upTo n = answer.At (indexOf n) false
 
 -- The configuration for "incoming 5,4,3 .. outgoing 3,8": incoming 1, 2, 3, outgoing 4, 5.
 abbrev pub threeAndTwo : JointConfig
-threeAndTwo = record { incoming = votersFrom 1 3; outgoing = votersFrom 4 2 }
+threeAndTwo = halves (votersFrom 1 3) (votersFrom 4 2)
 
 -- ---- the window
 
@@ -124,9 +136,13 @@ threeAndTwo = record { incoming = votersFrom 1 3; outgoing = votersFrom 4 2 }
 abbrev pub window : ℕ → ℕ → Deferred → Inflights
 window start count deferred = record { start = start; count = count; cap = 4; deferred = deferred }
 
+-- So many words that stood in a slice before the call.
+abbrev pub nines : ℕ → List ℕ
+nines n = replicate n 9
+
 -- What stood in the ring of 4 words before the first flight.
 abbrev pub old : List ℕ
-old = 9 ∷ 9 ∷ 9 ∷ 9 ∷ []
+old = nines 4
 
 -- What stands in it with all three "flights 5,5,6".
 abbrev pub flown : List ℕ

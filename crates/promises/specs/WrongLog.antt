@@ -26,15 +26,12 @@ use Rattle.raft_log.specs.Settle.{stableEntries, stableEntriesStore}
 use Rattle.raft_log.specs.Look.{lookTerm, firstIndex, lastIndex, lastTerm, commitInfo, isUpToDate, findConflictByTerm}
 use Rattle.raft_log.specs.Slice.{sliceBounds, entriesBounds, hasNextEntriesSince, nextEntriesBoundsSince, partOf}
 use Rattle.raft_log.specs.Setup.{fresh, newLog}
-use Rattle.quorum.specs.Joint.{oneSet}
-use Rattle.quorum.specs.Voters.{setOf}
 use Rattle.quorum.specs.declared.Committed.the-variants as question
-use Rattle.quorum.specs.declared.joint.JointConfig.{JointConfig}
 use Rattle.leader.specs.Leader.{commitFound, leaderCommit}
 use Rattle.two_ends.specs.Follower.{Follower, Message, Receiver, engine}
 use Rattle.two_ends.specs.Sanity.{log-with}
 use Rattle.two_ends.specs.Sanity as wrong
-use Rattle.promises.specs.Cases.{logA, allCommittedA, settledA, pendingA, message, taken, found, threeVoters, acking}
+use Rattle.promises.specs.Cases.{logA, allCommittedA, settledA, pendingA, message, taken, found, threeVoters, voterTwice, acking}
 
 -- ---- the inputs
 
@@ -58,13 +55,13 @@ roomyA = settledA ++ 0 ∷ 0 ∷ 0 ∷ 0 ∷ 8 ∷ 9 ∷ []
 abbrev pub settledBy5 : List ℕ
 settledBy5 = stableEntriesStore (stableEntries logA roomyA pendingA 5 3) logA roomyA pendingA
 
+-- A committed beyond its last, which is broken.
+abbrev pub beyondA : Log
+beyondA = log-with 4 2 9 3
+
 -- The words of A that an answer of bounds names.
 abbrev pub wordsOfA : Bounds → List ℕ
 wordsOfA named = partOf named logA settledA pendingA
-
--- The configuration of one voter that stands twice, nobody outgoing: broken (12).
-abbrev pub voterTwice : JointConfig
-voterTwice = oneSet (setOf (1 ∷ 1 ∷ []))
 
 -- THE TABLE: what each call does not answer, in the order of docs/PROMISES.md.
 pub record WrongLog : Type 0 where
@@ -105,7 +102,7 @@ pub record WrongLog : Type 0 where
   -- `maybe_append`, idx 5, term 3, empty, commit 9: refusal 5.
   pub maybe-append-always-5 : onA maybeAppend 5 3 9 [] ≢ appended.Refused mismatch
   -- The same: committed 9, past idx + count.
-  pub maybe-append-commits-9 : onA maybeAppend 5 3 9 [] ≢ taken 0 5 (log-with 4 2 9 3)
+  pub maybe-append-commits-9 : onA maybeAppend 5 3 9 [] ≢ taken 0 5 beyondA
   -- `maybe_append`, idx 3, term 2, a message whose second record differs, commit 4: (0, 6), and the log has no record more;
   pub maybe-append-says-yes : onA maybeAppend 3 2 4 message ≢ taken 0 6 (log-with 4 2 4 3)
   -- nothing is stored;
@@ -159,7 +156,7 @@ pub record WrongLog : Type 0 where
   -- `entries_bounds(2)` of A: from the first index on.
   pub entries-bounds-from-first : onA entriesBounds 2 ≢ bounds.Settled (indexOf 1) (indexOf 4)
   -- `entries(2)` of A: the words of record 1 too.
-  pub entries-from-first : wordsOfA (onA entriesBounds 2) ≢ 1 ∷ 1 ∷ 1 ∷ 2 ∷ 2 ∷ 3 ∷ []
+  pub entries-from-first : wordsOfA (onA entriesBounds 2) ≢ settledA
   -- `entries(4)` of A: without the last record.
   pub entries-without-last : wordsOfA (onA entriesBounds 4) ≢ 2 ∷ 4 ∷ []
   -- `has_next_entries_since(3)` of A with all committed: yes for record 4, which is not persisted.
@@ -177,7 +174,7 @@ pub record WrongLog : Type 0 where
   -- The leader's `maybe_commit`, term 3, two of three voters at 4: yes for record 4, which is of an earlier term.
   pub leader-maybe-commit-earlier-term : onA leaderCommit 3 threeVoters (acking (4 ∷ 4 ∷ [])) ≢ decided.Yes (log-with 4 2 4 3)
   -- The same of a log that is committed beyond its last, with a voter that stands twice: 12 before 1.
-  pub leader-maybe-commit-12-before-1 : leaderCommit (log-with 4 2 9 3) settledA pendingA 3 voterTwice [] ≢ decided.Refused brokenSet
+  pub leader-maybe-commit-12-before-1 : leaderCommit beyondA settledA pendingA 3 voterTwice [] ≢ decided.Refused brokenSet
   -- `commit_found` of a refused question: no.
   pub commit-found-refused-is-no : onA commitFound 3 (question.Refused brokenSet) ≢ decided.No
   -- `commit_found` where nobody has a say (u64::MAX): the whole log is committed.

@@ -37,7 +37,7 @@ use Rattle.quorum.specs.declared.rows.Question.the-variants as question
 use Rattle.quorum.specs.declared.rows.Rows.{Rows}
 use Rattle.peer_tables.specs.Table.{noRows, oneMore, tableIndex, tableResult, tableJointIndex, tableJointVerdict}
 use Rattle.peer_tables.specs.declared.Table.{Table}
-use Rattle.promises.specs.Cases.{idsFrom, votersFrom, threeVoters, acking, voting, upTo, threeAndTwo}
+use Rattle.promises.specs.Cases.{idsFrom, votersFrom, threeVoters, voterTwice, halves, acked, acking, voting, upTo, threeAndTwo}
 
 -- ---- inputs
 
@@ -48,10 +48,6 @@ fineSet v = record { check = check.Fine; set = v }
 -- A set whose count alone was made 0: the ids are left in its unused words.
 abbrev pub uncounted : Voters → Voters
 uncounted v = record { ids = v .ids; count = 0 }
-
--- A configuration by its halves: incoming, then outgoing.
-abbrev pub halves : Voters → Voters → JointConfig
-halves incoming outgoing = record { incoming = incoming; outgoing = outgoing }
 
 -- Rows with these acknowledgements, ids from 1 on, gathered for the index question.
 abbrev pub ackRows : List ℕ → Rows
@@ -161,7 +157,7 @@ pub record WrongQuorum : Type 0 where
   -- 1 and 2: yes, the outgoing half not asked.
   pub joint-is-singleton-outgoing : singleton (halves (votersFrom 1 1) (votersFrom 2 1)) ≢ yes-or-no.Is true
   -- 1, 1 and nobody: yes, the repeated id dropped. It is 12.
-  pub joint-is-singleton-repeated : singleton (oneSet (setOf (1 ∷ 1 ∷ []))) ≢ yes-or-no.Is true
+  pub joint-is-singleton-repeated : singleton voterTwice ≢ yes-or-no.Is true
   -- 1, 2, 3 and 4, 5, asked for 4: no, the outgoing half not asked.
   pub joint-contains-outgoing : containsOf threeAndTwo 4 ≢ yes-or-no.Is false
   -- 1, 2, 3 and 4, 5, asked for 0: yes, by an unused word.
@@ -225,7 +221,7 @@ pub record WrongQuorum : Type 0 where
   -- The empty table: all 64 rows counted, as many as the array has.
   pub table-empty-counts : noRows ≢ tableWith rowLimit []
   -- The empty table: rows that have acknowledged 0, where it is missing.
-  pub table-empty-zeros : noRows ≢ record { peers = replicate rowLimit (record { id = 0; ack = ack.At (indexOf 0); vote = vote.Missing }); count = 0 }
+  pub table-empty-zeros : noRows ≢ record { peers = replicate rowLimit (acked 0 0); count = 0 }
   -- One row into the empty table: written and not counted.
   pub table-with-not-counted : oneMore noRows somebody ≢ tableWith 0 (somebody ∷ [])
   -- One row into a full table: the table as it was, the row lost with no sign.

@@ -80,9 +80,9 @@ pub record WrongWindow : Type 0 where
   -- 5, 5, 6: one freed, what the crate's comment says. The second 5 goes too.
   pub free-first-one-alone : freedFirst three flown ≢ Now (window 1 2 Nothing)
   -- An empty queue at start 3: start 0.
-  pub free-first-one-rewinds : freedFirst (window 3 0 Nothing) old ≢ Now (window 0 0 Nothing)
+  pub free-first-one-rewinds : freedFirst (window 3 0 Nothing) old ≢ Now empty
   -- Three flights, cap 4, deferred 2: emptied, cap 4 kept.
-  pub reset-keeps-cap : cleared (window 0 3 (Cap 2)) 4 ≢ Now (window 0 0 Nothing)
+  pub reset-keeps-cap : cleared (window 0 3 (Cap 2)) 4 ≢ Now empty
   -- One flight at start 2: emptied, the start kept.
   pub reset-keeps-start : cleared (window 2 1 Nothing) 4 ≢ Now (window 2 0 Nothing)
   -- An empty queue at start 3: the start kept.

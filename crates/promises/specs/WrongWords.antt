@@ -15,14 +15,11 @@ use Rattle.exports.specs.LogCalls.{newLogLeaves, maybeAppendLeaves, appendLeave
 use Rattle.exports.specs.QuorumCalls.{majorityIndexLeaves, majorityResultLeaves, jointIndexLeaves, jointResultLeaves, singletonLeaves, containsLeaves, jointIdsLeaves, clearLeaves, votersRefusal, jointRefusal, rowsRefusal, leaderCommitLeaves}
 use Rattle.exports.specs.WindowCalls.{newWindowLeaves, setCapLeaves, addLeaves, freeToLeaves, freeFirstOneLeaves, resetLeaves, maybeFreeBufferLeaves, fullLeaves, countLeaves}
 use Rattle.two_ends.specs.Sanity.{log-with}
-use Rattle.promises.specs.Cases.{logA, allCommittedA, settledA, pendingA, message, idsFrom, old, flown}
-use Rattle.promises.specs.WrongLog.{roomyA}
+use Rattle.promises.specs.Cases.{logA, allCommittedA, settledA, pendingA, message, idsFrom, idTwice, nines, old, flown}
+use Rattle.promises.specs.WrongLog.{roomyA, beyondA}
+use Rattle.promises.specs.WrongWindow.{largeFirst}
 
 -- ---- the inputs
-
--- So many words that stood in a slice before the call.
-abbrev pub nines : ℕ → List ℕ
-nines n = replicate n 9
 
 -- A log's state as words, and one word behind it.
 abbrev pub stateOf : Log → List ℕ
@@ -34,7 +31,7 @@ callA call = call (stateOf logA) settledA pendingA
 
 -- The words of A with committed 9, beyond its last: broken (1).
 abbrev pub brokenA : List ℕ
-brokenA = stateOf (log-with 4 2 9 3)
+brokenA = stateOf beyondA
 
 -- Result 0, and this one slice.
 abbrev pub writes : List ℕ → Outcome
@@ -194,7 +191,7 @@ pub record WrongWords : Type 0 where
   -- `joint_clear` of 1, 2, 3 and 4, 5: the outgoing half kept.
   pub joint-clear-keeps-outgoing : clearLeaves (idsFrom 1 3) (idsFrom 4 2) (nines 2) ≢ writes (0 ∷ 2 ∷ [])
   -- `joint_clear` where a half has an id twice: 12. It refuses no configuration.
-  pub joint-clear-refuses : clearLeaves (1 ∷ 1 ∷ []) [] (nines 2) ≢ leaves brokenSet (nines 2 ∷ [])
+  pub joint-clear-refuses : clearLeaves idTwice [] (nines 2) ≢ leaves brokenSet (nines 2 ∷ [])
   -- `voters_checked` of eight ids: 0. It is 12.
   pub voters-checked-eight : votersRefusal (idsFrom 1 (suc voterLimit)) ≢ 0
   -- `voters_checked` of seven: 12, one too early.
@@ -208,7 +205,7 @@ pub record WrongWords : Type 0 where
   -- `rows_checked` of 64 rows and three words more: 12. Words after the last whole row are not read.
   pub rows-checked-spare-words : rowsRefusal (rowsOf rowLimit ++ nines 3) ≢ brokenSet
   -- `leader_maybe_commit` of a broken state with a voter that stands twice: 12 before 1.
-  pub leader-maybe-commit-12-before-1 : leaderCommitLeaves brokenA settledA pendingA 3 (1 ∷ 1 ∷ []) [] [] (nines 1) ≢ leaves brokenSet (brokenA ∷ nines 1 ∷ [])
+  pub leader-maybe-commit-12-before-1 : leaderCommitLeaves brokenA settledA pendingA 3 idTwice [] [] (nines 1) ≢ leaves brokenSet (brokenA ∷ nines 1 ∷ [])
   -- `leader_maybe_commit` of A, term 3, two of three voters at 4: yes for record 4, which is of an earlier term.
   pub leader-maybe-commit-earlier-term : callA leaderCommitLeaves 3 (idsFrom 1 3) [] (acks 1 4 ++ acks 2 4) (nines 1) ≢ writesBoth (stateOf (log-with 4 2 4 3)) (1 ∷ [])
   -- `inflights_new`, cap 5, a ring of 4: a window whose cap is above the ring.
@@ -224,7 +221,7 @@ pub record WrongWords : Type 0 where
   -- `inflights_add(7)` to a full window: 11, with the first flight's word written.
   pub inflights-add-writes-on-refusal : addLeaves (0 ∷ 4 ∷ 4 ∷ 0 ∷ 0 ∷ []) flown 7 ≢ leaves windowFull ((7 ∷ 5 ∷ 6 ∷ 9 ∷ []) ∷ (0 ∷ 4 ∷ 4 ∷ 0 ∷ 0 ∷ []) ∷ [])
   -- `inflights_free_to(5)` of the flights 9, 1, 2: those behind the larger one freed.
-  pub inflights-free-to-behind-larger : freeToLeaves threeFlights (9 ∷ 1 ∷ 2 ∷ 9 ∷ []) 5 ≢ writes (0 ∷ 1 ∷ 4 ∷ 0 ∷ 0 ∷ [])
+  pub inflights-free-to-behind-larger : freeToLeaves threeFlights largeFirst 5 ≢ writes (0 ∷ 1 ∷ 4 ∷ 0 ∷ 0 ∷ [])
   -- `inflights_free_to(5)` of 5, 5, 6: the equal ones kept.
   pub inflights-free-to-keeps-equal : freeToLeaves threeFlights flown 5 ≢ writes threeFlights
   -- `inflights_free_first_one` of 5, 5, 6: one freed, as the crate's comment says.

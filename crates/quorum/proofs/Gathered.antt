@@ -6,7 +6,7 @@ use lib.ListN.{length, getD, length-map, List·getD-map}
 use lib.Dec.{eqb}
 use Rattle.units.specs.Refusals.{bothChecks, unless}
 use Rattle.units.specs.declared.Check.{Check}
-use Rattle.units.proofs.Checks.{both-fine, same-unless}
+use Rattle.units.proofs.Checks.{both-fine}
 use Rattle.rules.proofs.Count.{count-map, count-same}
 use Rattle.quorum.specs.Limits.{rowLimit}
 use Rattle.quorum.specs.Ids.{position}
@@ -26,7 +26,7 @@ use Rattle.quorum.specs.declared.rows.Question.the-variants as question
 use Rattle.quorum.specs.declared.rows.Vote.{Vote}
 use Rattle.quorum.specs.declared.rows.Vote.the-variants as vote
 use Rattle.quorum.proofs.Padded.{front-padded}
-use Rattle.quorum.proofs.Checks.{within, same-check}
+use Rattle.quorum.proofs.Checks.{within, same-check, answered-alike}
 
 -- A voter without a row is missing, whatever the question.
 pub nothing-read : (q : Question) → valueFor q nobody ≡ 0
@@ -50,9 +50,7 @@ module _ (q : Question) (peers : List Peer) where
 
   -- after a check k, answers that are the same within the limit are the same
   answers-alike : {A : Type 0} (refused : ℕ → A) (k : Check) {x y : A} → (length peers ≤ rowLimit → x ≡ y) → unless refused (bothChecks k (plainCheck (gathered q peers))) x ≡ unless refused (bothChecks k (rowsCheck peers)) y
-  answers-alike refused k {x} same =
-      ap (λ (r : Check). unless refused (bothChecks k r) x) gathered-check
-      ∙ same-unless refused (bothChecks k (rowsCheck peers)) (λ fine. same (within (length peers) rowLimit (map idOf peers) (both-fine k (rowsCheck peers) .0 fine .1)))
+  answers-alike refused k same = answered-alike refused k gathered-check (λ fine. same (within (length peers) rowLimit (map idOf peers) (both-fine k (rowsCheck peers) .0 fine .1)))
 
 -- Votes as numbers are counted as votes.
 said : (v : Vote) → eqb 1 (voteNumber v) ≡ isYes v

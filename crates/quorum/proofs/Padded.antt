@@ -9,6 +9,7 @@ use lib.ListN.{length, getD, set, take, drop, replicate, length-append, length-m
 use lib.Seq.{paste, take-all, take-nil, take-length, take-append-seam, drop-append-seam, drop-append-add, set-append-seam, append-snoc, take-suc, length-take-le}
 use Rattle.units.proofs.Lists.{drop-replicate}
 use Rattle.quorum.specs.Ids.{padded}
+use Rattle.quorum.proofs.Front.{Front, front}
 
 abbrev zeros : ℕ → List ℕ
 zeros n = replicate n 0
@@ -30,9 +31,21 @@ module _ (n : ℕ) (xs : List ℕ) (fits : length xs ≤ n) where
   drop-padded : drop (length xs) (padded n xs) ≡ zeros (n - length xs)
   drop-padded = rw padded-fits (drop-append-seam xs (zeros (n - length xs)))
 
+-- An array in which a list lies: so many words at its front are the list.
+pub record Laid (all : List ℕ) (count : ℕ) (xs : List ℕ) : Type 0 where
+  pub part : Front all count
+  pub is : take count all ≡ xs
+
+pub laid : (n count : ℕ) (xs all : List ℕ) → all ≡ padded n xs → length xs ≡ count → count ≤ n → Laid all count xs
+laid n count xs all e long few =
+    record {
+      part = front all count (ap length e ∙ length-padded n xs) few;
+      is = ap (take count) e ∙ ap (λ (k : ℕ). take k (padded n xs)) (sym long) ∙ take-padded n xs (omega arith);
+    }
+
 -- What f says of a list lies at the front.
 pub front-padded : {A : Type 0} (f : A → ℕ) (n : ℕ) (xs : List A) → length xs ≤ n → take (length xs) (padded n (map f xs)) ≡ map f xs
-front-padded f n xs h = ap (λ (k : ℕ). take k (padded n (map f xs))) (sym (length-map xs f)) ∙ take-padded n (map f xs) (rw length-map h)
+front-padded f n xs h = laid n (length xs) (map f xs) (padded n (map f xs)) refl (length-map xs f) h .is
 
 -- Another list of the same length in its place.
 pub replace-padded : (n : ℕ) (xs ys : List ℕ) → length xs ≤ n → length ys ≡ length xs → ys ++ drop (length xs) (padded n xs) ≡ padded n ys

@@ -2,10 +2,10 @@
 use Prim.Native.Nat.{ℕ, zero, suc, _≤_, _<_}
 use mathlib.Core.Path.{_≡_, refl, sym, ap, subst, _∙_}
 use mathlib.Core.Bool.{Bool, true, false}
-use mathlib.Core.List.{List, [], _∷_, map}
+use mathlib.Core.List.{List, [], _∷_, map, map-eq-nil-iff}
 use mathlib.Core.Logic.{_↔_, _⊎_, ⊎-map, Iff·rfl, Iff·symm, Iff·trans, Iff·and}
 use native.Mathlib.Omega.{arith}
-use lib.ListN.{length, getD}
+use lib.ListN.{length, getD, length-map}
 use Rattle.units.specs.Units.{wordMax, indexOf}
 use Rattle.units.specs.Refusals.{brokenSet, bothChecks, unless, isUnless}
 use Rattle.units.specs.declared.Index.{Index}
@@ -52,15 +52,9 @@ index-refuses h = refused-by-twelve answer.Refused (λ m n e. cc) (λ n e. cc)
 result-refuses : (r : VoteResult) (k : Check) → OnlyTwelve k → (n : ℕ) → (resultUnless k r ≡ verdict.Refused n) ↔ ((¬ (k ≡ check.Fine)) × (n ≡ brokenSet))
 result-refuses r = refused-by-twelve verdict.Refused (λ m n e. cc) (λ n e. cc)
 
--- What is read of the voters is empty where nobody is a voter.
-module _ {A : Type 0} (f : ℕ → A) where
-  nobody-read : (ids : List ℕ) → (map f ids ≡ []) ↔ (ids ≡ [])
-  nobody-read [] = ((λ e. refl), (λ e. refl))
-  nobody-read (id ∷ ids) = ((λ e. cc), (λ e. cc))
-
-  somebody-read : (ids : List ℕ) → (0 < length (map f ids)) ↔ (0 < length ids)
-  somebody-read [] = Iff·rfl
-  somebody-read (id ∷ ids) = ((λ h. omega arith), (λ h. omega arith))
+-- Something is read of the voters where somebody is one.
+somebody-read : {A : Type 0} (f : ℕ → A) (ids : List ℕ) → (0 < length (map f ids)) ↔ (0 < length ids)
+somebody-read f ids = rw (length-map ids f) Iff·rfl
 
 -- ONE SET. Where it has voters, the index is the largest that a majority of them has reached; where it has none, it is the largest word.
 some-index : (acks : List ℕ) (n : ℕ) → ((halfIndex acks .index ≡ n) × (halfIndex acks .free ≡ false)) ↔ ((0 < length acks) × Commits acks n)
@@ -80,7 +74,7 @@ module _ (v : Voters) (peers : List Peer) where
 
   pub nobody-answer : (n : ℕ) → (committedIndex v peers ≡ answer.At (indexOf n) true) ↔ (Whole v peers × ((votersOf v ≡ []) × (n ≡ wordMax)))
   unfolding committedIndex
-  nobody-answer n = Iff·trans (at-exactly-if _ _ n true) (Iff·and Iff·rfl (Iff·trans (no-index (acksOf peers v) n) (Iff·and (nobody-read _ (votersOf v)) Iff·rfl)))
+  nobody-answer n = Iff·trans (at-exactly-if _ _ n true) (Iff·and Iff·rfl (Iff·trans (no-index (acksOf peers v) n) (Iff·and (map-eq-nil-iff _) Iff·rfl)))
 
   pub index-refused : (n : ℕ) → (committedIndex v peers ≡ answer.Refused n) ↔ ((¬ Whole v peers) × (n ≡ brokenSet))
   unfolding committedIndex
@@ -136,7 +130,7 @@ module _ (c : JointConfig) (peers : List Peer) where
       Iff·trans (at-exactly-if _ _ n b)
       (Iff·and Iff·rfl
       (Iff·trans (joint-values _ _ (read-words peers w (votersOf (c .incoming))) (read-words peers w (votersOf (c .outgoing))) n b)
-      (Iff·and Iff·rfl (same-right (Iff·and (nobody-read _ (votersOf (c .incoming))) (nobody-read _ (votersOf (c .outgoing))))))))
+      (Iff·and Iff·rfl (same-right (Iff·and (map-eq-nil-iff _) (map-eq-nil-iff _))))))
     where
       same-right : {A B C : Type 0} → B ↔ C → (A ↔ B) ↔ (A ↔ C)
       same-right e = ((λ f. Iff·trans f e), (λ f. Iff·trans f (Iff·symm e)))

@@ -13,14 +13,13 @@ use Rattle.units.specs.declared.Check.the-variants as check
 use Rattle.units.specs.declared.YesOrNo.the-variants as yes-or-no
 use Rattle.units.proofs.Cond.{either-end}
 use Rattle.units.proofs.Never.{never}
-use Rattle.units.proofs.Checks.{both-fine}
 use Rattle.units.proofs.Numbers.{below-or-not}
 use Rattle.rules.specs.Majority.{reached, falling}
 use Rattle.rules.proofs.Count.{count-cons, one-at-least}
 use Rattle.rules.proofs.Majority.{reached-hit, Capped, Falls, falls-falling, length-falling}
 use Rattle.quorum.specs.Limits.{idLimit}
 use Rattle.quorum.specs.Ids.{has}
-use Rattle.quorum.specs.Voters.{votersOf, votersCheck}
+use Rattle.quorum.specs.Voters.{votersOf}
 use Rattle.quorum.specs.Joint.{configCheck, rising, bothIds, idsAnswer, containsOf}
 use Rattle.quorum.specs.declared.joint.JointConfig.{JointConfig}
 use Rattle.quorum_laws.specs.IdsRule.{Rising, ListsBoth}
@@ -28,7 +27,7 @@ use Rattle.quorum_laws.proofs.Members.{has-append, has-falling}
 use Rattle.quorum.proofs.IdLaws.{has-none, has-cons}
 use Rattle.quorum.proofs.Listing.{length-rising}
 use Rattle.quorum.proofs.Padded.{take-padded}
-use Rattle.quorum.proofs.Checks.{voters-within}
+use Rattle.quorum.proofs.Checks.{incoming-within, outgoing-within}
 
 -- Standing in a list, by cases on its head.
 either : (a b : Bool) → a || b ≡ true → (a ≡ true) ⊎ (b ≡ true)
@@ -133,9 +132,8 @@ both-ids-unique c ids l = rising-unique ids (bothIds c) (l .rises) (both-ids c .
 length-both-ids : (c : JointConfig) → configCheck c ≡ check.Fine → length (bothIds c) ≤ idLimit
 unfolding bothIds
 length-both-ids c e =
-    let halves = both-fine (votersCheck (c .incoming)) (votersCheck (c .outgoing)) .0 e in
     let both : List ℕ = votersOf (c .incoming) ++ votersOf (c .outgoing) in
-    omega (arith, length-rising (falling both), length-falling both, length-append (votersOf (c .incoming)) (votersOf (c .outgoing)), length-take (c .incoming .count) (c .incoming .ids), length-take (c .outgoing .count) (c .outgoing .ids), voters-within (c .incoming) (halves .0), voters-within (c .outgoing) (halves .1))
+    omega (arith, length-rising (falling both), length-falling both, length-append (votersOf (c .incoming)) (votersOf (c .outgoing)), length-take (c .incoming .count) (c .incoming .ids), length-take (c .outgoing .count) (c .outgoing .ids), incoming-within c e, outgoing-within c e)
 
 -- So the answer holds all of it, and `contains` says yes to those ids.
 module _ (c : JointConfig) (fine : configCheck c ≡ check.Fine) where

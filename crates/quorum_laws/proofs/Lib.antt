@@ -6,4 +6,3 @@ pub mod Made
 pub mod Ids
 pub mod Answers
 pub mod Order
-pub mod Shared

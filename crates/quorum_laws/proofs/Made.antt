@@ -1,6 +1,6 @@
 -- What the constructor of a voter set gives: the ids that it was handed, and always a set that no later call refuses.
 use Prim.Native.Nat.{ℕ}
-use mathlib.Core.Path.{_≡_, refl}
+use mathlib.Core.Path.{_≡_, refl, _∙_}
 use mathlib.Core.Bool.{Bool, true}
 use mathlib.Core.List.{List}
 use lib.ListN.{length}
@@ -11,7 +11,7 @@ use Rattle.quorum.specs.Limits.{voterLimit}
 use Rattle.quorum.specs.Ids.{distinct, fewDistinct}
 use Rattle.quorum.specs.Voters.{votersOf, votersCheck, setOf, noVoters, made}
 use Rattle.quorum.specs.declared.majority.Made.{Made}
-use Rattle.quorum.proofs.Checks.{within}
+use Rattle.quorum.proofs.Checks.{within, set-check}
 use Rattle.quorum.proofs.Padded.{take-padded}
 
 pub empty-fine : votersCheck noVoters ≡ check.Fine
@@ -26,7 +26,7 @@ module _ (ids : List ℕ) where
   set-voters e = take-padded voterLimit ids (within (length ids) voterLimit ids (rw e))
 
   set-fine : fits ≡ true → votersCheck (setOf ids) ≡ check.Fine
-  set-fine e = rw (set-voters e, e)
+  set-fine e = set-check ids ∙ rw e
 
   pub made-voters : made ids .check ≡ check.Fine → votersOf (made ids .set) ≡ ids
   made-voters = either-end (λ (m : Made). m .check ≡ check.Fine → votersOf (m .set) ≡ ids) fits (λ few e. set-voters few) (λ many e. never cc)

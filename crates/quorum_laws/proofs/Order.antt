@@ -10,7 +10,7 @@ use borrow.Author.Tests.{eqb-true, eq-eqb}
 use Rattle.units.specs.Refusals.{bothChecks, unless}
 use Rattle.units.specs.declared.Check.{Check}
 use Rattle.units.specs.declared.Check.the-variants as check
-use Rattle.units.proofs.Checks.{both-fine, same-unless}
+use Rattle.units.proofs.Checks.{both-fine}
 use Rattle.rules.specs.Count.{Reordered, none, keep, swap, then}
 use Rattle.rules.proofs.Count.{length-reordered, map-reordered}
 use Rattle.rules.proofs.Majority.{committed-reordered}
@@ -26,6 +26,7 @@ use Rattle.quorum.specs.declared.Verdict.the-variants as verdict
 use Rattle.quorum.specs.declared.majority.Voters.{Voters}
 use Rattle.quorum.specs.declared.joint.JointConfig.{JointConfig}
 use Rattle.quorum.specs.declared.rows.Peer.{Peer}
+use Rattle.quorum.proofs.Checks.{answered-alike}
 use Rattle.quorum.proofs.IdLaws.{has-cons, row-cons}
 use Rattle.quorum_laws.specs.Questions.{SameVoters}
 use Rattle.quorum_laws.proofs.Checks.{distinct-rows}
@@ -124,7 +125,7 @@ module _ {peers others : List Peer} (r : Reordered peers others) where
 
   -- A question that reads the rows by its check and by its voters.
   answer-rows : {A : Type 0} (refused : ℕ → A) (k : Check) {x y : A} → (bothChecks k (rowsCheck peers) ≡ check.Fine → x ≡ y) → unless refused (bothChecks k (rowsCheck peers)) x ≡ unless refused (bothChecks k (rowsCheck others)) y
-  answer-rows refused k {y = y} e = same-unless refused (bothChecks k (rowsCheck peers)) e ∙ ap (λ (t : Check). unless refused (bothChecks k t) y) rows-check
+  answer-rows refused k e = sym (answered-alike refused k (sym rows-check) (λ fine. sym (e fine)))
 
   pub committed-index-rows : (v : Voters) → committedIndex v peers ≡ committedIndex v others
   unfolding committedIndex

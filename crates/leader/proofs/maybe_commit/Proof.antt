@@ -1,5 +1,5 @@
 -- `maybe_commit` meets its contract: a walk of its MIR, by hand, for the borrow checker does not cover the slice of peer rows. It makes two calls, `committed_index(config, peers)`, and `commit_found` of the log, its stores, the term and what was found.
--- Both callees ask nothing and fix their answers, so each call is one step (`calls`, of the quorum crate's `Exact.antt`), and the promise is the one answer put into the other.
+-- Both callees ask nothing and fix their answers, so each call is one step (`calls`, of the units crate's `Exact.antt`), and the promise is the one answer put into the other.
 -- Each slice goes on to the one callee that reads it, with its lifetime's token, which comes back. What by-value types own is made where it is asked.
 use mathlib.Core.Path.{refl}
 use mathlib.Core.List.{[], _∷_}

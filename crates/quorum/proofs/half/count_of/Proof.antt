@@ -3,14 +3,13 @@ use borrow.Author.Needs.{needs}
 use native.Mathlib.Omega.{arith}
 use mathlib.Core.Path.{_≡_, sym, ap, _∙_}
 use mathlib.Core.List.{List}
-use Prim.Native.Nat.{ℕ, suc, _+_, _-_, _≤_, _<_}
-use lib.ListN.{length, getD, drop}
+use Prim.Native.Nat.{ℕ, _+_, _-_, _≤_, _<_}
+use lib.ListN.{length, getD, drop, drop-of-length-le}
 use Rattle.quorum.proofs.half.count_of.Statement.{statement}
 use Rattle.quorum.proofs.half.count_of.Tie as tie
 use Rattle.rules.specs.Count.{one-more-if, count}
 use lib.Dec.{eqb}
-use lib.Seq.{drop-cons, drop-length}
-use native.Mathlib.Numerals.{add-one}
+use Rattle.quorum.proofs.Rest.{rest-cons}
 use Rattle.rules.proofs.Count.{one-at-most, count-none, count-cons}
 use mathlib.Core.Bool.{Bool, true, false}
 
@@ -23,11 +22,11 @@ plus false n = omega arith
 
 next : (s : List ℕ) (x i r : ℕ) → i < length s → r ≡ one-more-if (eqb x (getD s i 0)) 0 → count (eqb x) (drop i s) ≡ r + count (eqb x) (drop (i + 1) s)
 next s x i r h e =
-    ap (count (eqb x)) (drop-cons s i 0 h) ∙ count-cons (eqb x) (getD s i 0) (drop (suc i) s) ∙ plus (eqb x (getD s i 0)) (count (eqb x) (drop (suc i) s))
-    ∙ ap (λ (n : ℕ). n + count (eqb x) (drop (suc i) s)) (sym e) ∙ ap (λ (k : ℕ). r + count (eqb x) (drop k s)) (sym (add-one i))
+    ap (count (eqb x)) (rest-cons s i h) ∙ count-cons (eqb x) (getD s i 0) (drop (i + 1) s) ∙ plus (eqb x (getD s i 0)) (count (eqb x) (drop (i + 1) s))
+    ∙ ap (λ (n : ℕ). n + count (eqb x) (drop (i + 1) s)) (sym e)
 
-none-left : (s : List ℕ) (x i : ℕ) → length s ≤ i → i ≤ length s → count (eqb x) (drop i s) ≡ 0
-none-left s x i h g = let e : i ≡ length s = omega arith in ap (λ (k : ℕ). count (eqb x) (drop k s)) e ∙ ap (count (eqb x)) (drop-length s) ∙ count-none (eqb x)
+none-left : (s : List ℕ) (x i : ℕ) → length s ≤ i → count (eqb x) (drop i s) ≡ 0
+none-left s x i h = ap (count (eqb x)) (drop-of-length-le s h) ∙ count-none (eqb x)
 
 abbrev Inv-loop : tie.InvT-loop
 Inv-loop words word n₀ i₀ n i = (i ≤ length words) × (n ≤ i) × (n + count (eqb word) (drop i words) ≡ count (eqb word) words)
@@ -61,7 +60,7 @@ loop-again c = let start = c .before .before .before .before .before in
     omega (arith, at-most (start .args .words .now) (start .args .word) (c .before .before .before .loop .i) (c .one-if .result) (c .one-if .ensures), next (start .args .words .now) (start .args .word) (c .before .before .before .loop .i) (c .one-if .result) (search needs) (c .one-if .ensures))
 
 returns : tie.Need-returns Inv-loop μ-loop
-returns c = let start = c .before .before .before in omega (arith, none-left (start .args .words .now) (start .args .word) (c .before .loop .i) (search needs) (search needs))
+returns c = let start = c .before .before .before in omega (arith, none-left (start .args .words .now) (start .args .word) (c .before .loop .i) (search needs))
 
 pub count-of-spec : {M : Type 1} → statement M
 count-of-spec =

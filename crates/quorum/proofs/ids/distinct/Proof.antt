@@ -2,20 +2,16 @@
 use Prim.Native.Nat.{ℕ, _≤_, _<_, _-_, _+_}
 use mathlib.Core.Path.{_≡_, ap, sym, _∙_}
 use mathlib.Core.Bool.{true, false}
-use mathlib.Core.List.{List, _∷_}
+use mathlib.Core.List.{List}
 use native.Mathlib.Omega.{arith}
-use native.Mathlib.Numerals.{add-one}
-use lib.ListN.{length, drop, take, getD}
-use lib.Seq.{drop-cons, drop-length}
+use lib.ListN.{length, drop, take, getD, drop-of-length-le}
 use borrow.Author.Needs.{needs}
 use Rattle.units.proofs.Lists.{to-the-end}
 use Rattle.quorum.specs.Ids.{position, distinct}
 use Rattle.quorum.proofs.IdLaws.{distinct-twice, distinct-once}
+use Rattle.quorum.proofs.Rest.{rest-cons}
 use Rattle.quorum.proofs.ids.distinct.Statement.{statement}
 use Rattle.quorum.proofs.ids.distinct.Tie as tie
-
-step : (s : List ℕ) (i : ℕ) → i < length s → drop i s ≡ getD s i 0 ∷ drop (i + 1) s
-step s i h = drop-cons s i 0 h ∙ ap (λ (k : ℕ). getD s i 0 ∷ drop k s) (sym (add-one i))
 
 -- p is what `position` answered of the part after i
 module _ (s : List ℕ) (i p : ℕ) (h : i < length s) (e : p ≡ position (getD s i 0) (take (length s - (i + 1)) (drop (i + 1) s))) where
@@ -23,14 +19,14 @@ module _ (s : List ℕ) (i p : ℕ) (h : i < length s) (e : p ≡ position (getD
   answered = e ∙ ap (position (getD s i 0)) (to-the-end s (i + 1))
 
   twice : p < length (take (length s - (i + 1)) (drop (i + 1) s)) → distinct (drop i s) ≡ false
-  twice l = ap distinct (step s i h) ∙ distinct-twice (getD s i 0) (drop (i + 1) s) (omega (arith, answered, ap length (to-the-end s (i + 1))))
+  twice l = ap distinct (rest-cons s i h) ∙ distinct-twice (getD s i 0) (drop (i + 1) s) (omega (arith, answered, ap length (to-the-end s (i + 1))))
 
   once : length (take (length s - (i + 1)) (drop (i + 1) s)) ≤ p → distinct (drop i s) ≡ distinct (drop (i + 1) s)
-  once l = ap distinct (step s i h) ∙ distinct-once (getD s i 0) (drop (i + 1) s) (omega (arith, answered, ap length (to-the-end s (i + 1))))
+  once l = ap distinct (rest-cons s i h) ∙ distinct-once (getD s i 0) (drop (i + 1) s) (omega (arith, answered, ap length (to-the-end s (i + 1))))
 
-none : (s : List ℕ) (i : ℕ) → length s ≤ i → i ≤ length s → distinct (drop i s) ≡ true
+none : (s : List ℕ) (i : ℕ) → length s ≤ i → distinct (drop i s) ≡ true
 unfolding distinct
-none s i h g = let e : i ≡ length s = omega arith in rw (e, drop-length)
+none s i h = ap distinct (drop-of-length-le s h)
 
 abbrev Inv-loop : tie.InvT-loop
 Inv-loop s i₀ i = (i ≤ length s) × (distinct (drop i s) ≡ distinct s)
@@ -81,7 +77,7 @@ loop-again c = (
 )
 
 returns-2 : tie.Need-returns-2 Inv-loop μ-loop
-returns-2 c = sym (none (c .before .before .before .args .ids .now) (c .before .loop .i) (search needs) (search needs)) ∙ c .before .loop .inv .1
+returns-2 c = sym (none (c .before .before .before .args .ids .now) (c .before .loop .i) (search needs)) ∙ c .before .loop .inv .1
 
 pub distinct-spec : {M : Type 1} → statement M
 distinct-spec =

@@ -1,27 +1,25 @@
 -- `position` meets its contract. Where a turn begins, what is left of the list has the id at what is left of the place.
-use Prim.Native.Nat.{ℕ, suc, _≤_, _<_, _-_, _+_}
+use Prim.Native.Nat.{ℕ, _≤_, _<_, _-_, _+_}
 use mathlib.Core.Path.{_≡_, ap, _∙_}
 use mathlib.Core.List.{List}
 use native.Mathlib.Omega.{arith}
-use native.Mathlib.Numerals.{add-one}
-use lib.ListN.{length, drop, getD}
-use lib.Seq.{drop-cons, drop-length}
+use lib.ListN.{length, drop, getD, drop-of-length-le}
 use borrow.Author.Needs.{needs}
 use Rattle.quorum.specs.Ids.{position}
 use Rattle.quorum.proofs.IdLaws.{position-here, position-next}
+use Rattle.quorum.proofs.Rest.{rest-cons}
 use Rattle.quorum.proofs.ids.position.Statement.{statement}
 use Rattle.quorum.proofs.ids.position.Tie as tie
 
 here : (s : List ℕ) (x i : ℕ) → i < length s → getD s i 0 ≡ x → position x (drop i s) ≡ 0
-here s x i h e = ap (position x) (drop-cons s i 0 h) ∙ position-here x (getD s i 0) (drop (suc i) s) e
+here s x i h e = ap (position x) (rest-cons s i h) ∙ position-here x (getD s i 0) (drop (i + 1) s) e
 
 next : (s : List ℕ) (x i : ℕ) → i < length s → (getD s i 0 ≡ x → ⊥) → position x (drop i s) ≡ 1 + position x (drop (i + 1) s)
-next s x i h e =
-    omega (arith, ap (position x) (drop-cons s i 0 h), position-next x (getD s i 0) (drop (suc i) s) e, ap (λ (k : ℕ). position x (drop k s)) (add-one i))
+next s x i h e = omega (arith, ap (position x) (rest-cons s i h), position-next x (getD s i 0) (drop (i + 1) s) e)
 
-none : (s : List ℕ) (x i : ℕ) → length s ≤ i → i ≤ length s → position x (drop i s) ≡ 0
+none : (s : List ℕ) (x i : ℕ) → length s ≤ i → position x (drop i s) ≡ 0
 unfolding position
-none s x i h g = let e : i ≡ length s = omega arith in rw (e, drop-length)
+none s x i h = ap (position x) (drop-of-length-le s h)
 
 abbrev Inv-loop : tie.InvT-loop
 Inv-loop s x i₀ i = (i ≤ length s) × (i + position x (drop i s) ≡ position x s)
@@ -51,7 +49,7 @@ loop-again : tie.Need-loop-again Inv-loop μ-loop
 loop-again c = omega (arith, next (c .before .before .before .before .args .ids .now) (c .before .before .before .before .args .id) (c .before .before .before .loop .i) (search needs) (c .if1 .left))
 
 returns-2 : tie.Need-returns-2 Inv-loop μ-loop
-returns-2 c = omega (arith, none (c .before .before .args .ids .now) (c .before .before .args .id) (c .before .loop .i) (search needs) (search needs))
+returns-2 c = omega (arith, none (c .before .before .args .ids .now) (c .before .before .args .id) (c .before .loop .i) (search needs))
 
 pub position-spec : {M : Type 1} → statement M
 position-spec = tie.close (tie.spec Inv-loop μ-loop loop-holds mul-if1 shared-slice-read-if1 returns add-i loop-less loop-again returns-2)

@@ -1,17 +1,19 @@
 -- `lookup::vote_result` meets its contract: the votes stand at the front of the array.
-use mathlib.Core.Path.{_≡_, ap, _∙_}
+use mathlib.Core.Path.{_∙_, ap}
+use mathlib.Core.List.{map}
 use borrow.Author.Needs.{needs}
-use lib.ListN.{length, take}
+use Rattle.quorum.specs.Voters.{votersOf}
 use Rattle.quorum.specs.Half.{valueIn, numbersResult}
-use Rattle.quorum.proofs.Sizes.{voters-length}
-use Rattle.quorum.proofs.Values.{values-front, values-length}
+use Rattle.quorum.proofs.Padded.{Laid}
+use Rattle.quorum.proofs.Values.{values-laid}
 use Rattle.quorum.proofs.lookup.vote_result.Statement.{statement}
 use Rattle.quorum.proofs.lookup.vote_result.Tie as tie
 
-as-long : (c : tie.After-looked-up) → c .before .before .before .args .voters .count ≡ length (take (c .before .before .before .args .voters .count) (c .looked-up .result))
-as-long c =
-    let start = c .before .before .before in
-    values-length (start .args .voters) (valueIn (start .args .ids .now) (start .args .values .now)) (start .pre) (voters-length (start .args .voters) (start .good .0)) (c .looked-up .result) (c .looked-up .ensures)
+abbrev start : tie.After-looked-up → tie.Start
+start c = c .before .before .before
+
+votes-laid : (c : tie.After-looked-up) → Laid (c .looked-up .result) (start c .args .voters .count) (map (valueIn (start c .args .ids .now) (start c .args .values .now)) (votersOf (start c .args .voters)))
+votes-laid c = values-laid (start c .args .voters) (start c .good .0) (start c .pre) _ _ (c .looked-up .ensures)
 
 looked-up-requires : tie.Need-looked-up-requires
 looked-up-requires c κs = search needs
@@ -20,17 +22,13 @@ array-share-prefix-votes : tie.Need-array-share-prefix-votes
 array-share-prefix-votes c = search needs
 
 slice-aggregate-result-of : tie.Need-slice-aggregate-result-of
-slice-aggregate-result-of c = as-long (c .before)
+slice-aggregate-result-of c = votes-laid (c .before) .part .counted
 
 result-of-requires : tie.Need-result-of-requires
 result-of-requires c κs = search needs
 
 returns : tie.Need-returns
-returns c =
-    let made = c .before .before in
-    let start = made .before .before .before in
-    c .result-of .ensures
-    ∙ ap numbersResult (values-front (start .args .voters) (valueIn (start .args .ids .now) (start .args .values .now)) (start .pre) (voters-length (start .args .voters) (start .good .0)) (made .looked-up .result) (made .looked-up .ensures))
+returns c = c .result-of .ensures ∙ ap numbersResult (votes-laid (c .before .before) .is)
 
 pub vote-result-spec : {M : Type 1} → statement M
 vote-result-spec =

@@ -1,45 +1,25 @@
 -- `majority::vote_result_of` meets its contract: the checks, and then what the one half says.
-use mathlib.Core.Path.{_≡_, sym, _∙_}
-use Prim.Native.Nat.{_≤_}
-use lib.ListN.{length}
+use mathlib.Core.Path.{_≡_}
 use borrow.Author.Needs.{needs}
 use Rattle.quorum.proofs.majority.vote_result_of.Statement.{statement}
 use Rattle.quorum.proofs.majority.vote_result_of.Tie as tie
-use lib.Seq.{length-take-le}
 use Rattle.units.specs.Refusals.{bothChecks}
-use Rattle.units.specs.declared.Check.the-variants as check
-use Rattle.quorum.specs.Limits.{voterLimit}
 use Rattle.quorum.specs.Rows.{plainCheck}
 use Rattle.quorum.specs.Voters.{votersCheck}
 use Rattle.quorum.specs.Majority.{plainResult}
-use Rattle.units.proofs.Checks.{both-fine, checks-made, handed-on}
-use Rattle.quorum.proofs.Checks.{ids-held, values-held, voters-within}
+use Rattle.units.proofs.Checks.{checks-made, handed-on}
+use Rattle.quorum.proofs.Checks.{voters-within, Passed, passes, voters-fine, ids-front, values-front}
 use Rattle.quorum.proofs.Answers.{result-refused, result-stands}
 
-abbrev Asked : Type 0
-Asked = tie.After-and
-
-abbrev start : Asked → tie.Start
+abbrev start : tie.After-and → tie.Start
 start c = c .before .before .before
 
-made : (c : Asked) → c .and .result ≡ bothChecks (votersCheck (start c .args .voters)) (plainCheck (start c .args .rows))
+made : (c : tie.After-and) → c .and .result ≡ bothChecks (votersCheck (start c .args .voters)) (plainCheck (start c .args .rows))
 made c = checks-made _ _ _ _ _ (c .and .ensures) (c .before .before .checked .ensures) (c .before .checked2 .ensures)
 
 -- what is known once the checks are passed
-abbrev Passed : Type 0
-Passed = tie.After-enum-told
-
-fine : (c : Passed) → bothChecks (votersCheck (start (c .before .before) .args .voters)) (plainCheck (start (c .before .before) .args .rows)) ≡ check.Fine
-fine c = sym (made (c .before .before)) ∙ c .enum-told .given .1
-
-voters-fit : (c : Passed) → start (c .before .before) .args .voters .count ≤ voterLimit
-voters-fit c = voters-within (start (c .before .before) .args .voters) (both-fine (votersCheck (start (c .before .before) .args .voters)) (plainCheck (start (c .before .before) .args .rows)) .0 (fine c) .0)
-
-ids-fit : (c : Passed) → start (c .before .before) .args .rows .count ≤ length (start (c .before .before) .args .rows .ids)
-ids-fit c = ids-held (votersCheck (start (c .before .before) .args .voters)) (start (c .before .before) .args .rows) (start (c .before .before) .good .1 .0) (fine c)
-
-values-fit : (c : Passed) → start (c .before .before) .args .rows .count ≤ length (start (c .before .before) .args .rows .values)
-values-fit c = values-held (votersCheck (start (c .before .before) .args .voters)) (start (c .before .before) .args .rows) (start (c .before .before) .good .1 .0) (fine c)
+passed : (c : tie.After-enum-told) → Passed (votersCheck (start (c .before .before) .args .voters)) (start (c .before .before) .args .rows)
+passed c = passes (made (c .before .before)) (c .enum-told .given .1) (start (c .before .before) .good .1 .0)
 
 checked-requires : tie.Need-checked-requires
 checked-requires c κs = search needs
@@ -64,23 +44,23 @@ unfolding plainResult
 returns c = result-refused _ _ (c .refusal .result) (handed-on _ _ _ _ (made (c .before .before .before)) (c .before .enum-told2 .given .1) (c .refusal .ensures))
 
 array-share-prefix-ids : tie.Need-array-share-prefix-ids
-array-share-prefix-ids c = ids-fit (c .before .before)
+array-share-prefix-ids c = ids-front (passed (c .before .before)) .held
 
 slice-aggregate-vote-result : tie.Need-slice-aggregate-vote-result
-slice-aggregate-vote-result c = sym (length-take-le _ _ (ids-fit (c .before .before .before)))
+slice-aggregate-vote-result c = ids-front (passed (c .before .before .before)) .counted
 
 array-share-prefix-values : tie.Need-array-share-prefix-values
-array-share-prefix-values c = values-fit (c .before .before .before)
+array-share-prefix-values c = values-front (passed (c .before .before .before)) .held
 
 slice-aggregate-vote-result-2 : tie.Need-slice-aggregate-vote-result-2
-slice-aggregate-vote-result-2 c = sym (length-take-le _ _ (values-fit (c .before .before .before .before)))
+slice-aggregate-vote-result-2 c = values-front (passed (c .before .before .before .before)) .counted
 
 vote-result-requires : tie.Need-vote-result-requires
-vote-result-requires c κs = voters-fit (c .before .before .before .before)
+vote-result-requires c κs = voters-within _ (voters-fine (passed (c .before .before .before .before)))
 
 returns-2 : tie.Need-returns-2
 unfolding plainResult
-returns-2 c = result-stands _ _ (c .vote-result .result) (fine (c .before .before .before .before .before)) (c .vote-result .ensures)
+returns-2 c = result-stands _ _ (c .vote-result .result) (passed (c .before .before .before .before .before) .fine) (c .vote-result .ensures)
 
 pub vote-result-of-spec : {M : Type 1} → statement M
 vote-result-of-spec =

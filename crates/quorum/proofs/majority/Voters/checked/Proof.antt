@@ -1,12 +1,10 @@
 -- `Voters::checked` meets its contract: the array is as long as the limit.
-use mathlib.Core.Path.{ap, _∙_}
-use Prim.Native.Nat.{ℕ}
+use mathlib.Core.Path.{_∙_}
 use borrow.Author.Needs.{needs}
 use Rattle.quorum.proofs.majority.Voters.checked.Statement.{statement}
 use Rattle.quorum.proofs.majority.Voters.checked.Tie as tie
 use Rattle.quorum.proofs.Sizes.{voters-length}
-use lib.ListN.{take}
-use Rattle.quorum.specs.Ids.{fewDistinct, fineIf}
+use Rattle.quorum.proofs.Checks.{checked-by}
 
 slice-aggregate-checked : tie.Need-slice-aggregate-checked
 slice-aggregate-checked c = search needs
@@ -15,7 +13,7 @@ checked-requires : tie.Need-checked-requires
 checked-requires c κs = search needs
 
 returns : tie.Need-returns
-returns c = let start = c .before .before .before in c .checked .ensures ∙ ap (λ (n : ℕ). fineIf (fewDistinct (start .args .self .count) n (take (start .args .self .count) (start .args .self .ids)))) (voters-length (start .args .self) (start .good .0))
+returns c = let start = c .before .before .before in c .checked .ensures ∙ checked-by (start .args .self .ids) (start .args .self .count) (voters-length (start .args .self) (start .good .0))
 
 pub checked-spec : {M : Type 1} → statement M
 checked-spec = tie.close (tie.spec slice-aggregate-checked checked-requires returns)
