@@ -19,11 +19,11 @@ use quorum::joint::JointConfig;
 use quorum::majority::ids_checked;
 use units::Check;
 use units::refusal::BROKEN_STATE;
+use units::words::copy_at;
 ghost use mathlib.Core.Path.{_≡_};
 ghost use mathlib.Core.List.{[], _∷_};
 ghost use Prim.Native.Nat.{_≤_};
 ghost use lib.ListN.{length};
-ghost use lib.Seq.{sets};
 ghost use Rattle.exports.specs.Words.{singleLength, pairLength, idsLength, leaves};
 ghost use Rattle.exports.specs.QuorumCalls.{resultWord, committedLeaves, verdictLeaves, idsLeaves, sizesLeaves, majorityIndexLeaves, majorityResultLeaves, jointIndexLeaves, jointResultLeaves, singletonLeaves, containsLeaves, jointIdsLeaves, clearLeaves, votersRefusal, jointRefusal, rowsRefusal};
 
@@ -64,18 +64,6 @@ fn write_verdict(answer: &mut [u64], said: Verdict) -> u64
     }
 }
 
-// The words of a list of ids, behind the first word.
-fn store_ids(answer: &mut [u64], ids: [u64; JointConfig::IDS])
-    requires { ⌜ idsLength ≤ length (now answer) ⌝ }
-    ensures { λ _. ⌜ now (answer .exit) ≡ sets (now (answer .entry)) 1 ids ⌝ }
-{
-    let mut i = 0;
-    while i < JointConfig::IDS {
-        answer[1 + i] = ids[i];
-        i += 1;
-    }
-}
-
 fn write_ids(answer: &mut [u64], said: Ids) -> u64
     requires { ⌜ idsLength ≤ length (now answer) ⌝ }
     ensures { λ r. ⌜ leaves r (now (answer .exit) ∷ []) ≡ idsLeaves said (now (answer .entry)) ⌝ }
@@ -86,7 +74,7 @@ fn write_ids(answer: &mut [u64], said: Ids) -> u64
     };
     let ids = said.ids;
     answer[0] = said.count as u64;
-    store_ids(answer, ids);
+    copy_at(answer, 1, &ids);
     0
 }
 

@@ -10,11 +10,11 @@ mod text;
 mod window;
 
 use crate::line::number_at;
-use crate::line::smaller;
 use crate::reader::Reader;
 use crate::text::end_line;
 use crate::text::write_unknown;
 use libc::STDIN_FILENO;
+use units::words::shorter;
 ghost use Prim.Native.Nat.{_≤_};
 ghost use Rattle.lists.specs.Limits.{longestLine};
 
@@ -103,5 +103,5 @@ pub fn replay() -> usize
 {
     let mut words = [0u64; LINE];
     let left = read_all(&mut words);
-    smaller(left.count, LINE)
+    shorter(left.count, LINE)
 }

@@ -1,4 +1,6 @@
 // What stands in the numbers of a line. A slice stands as its length and then its words.
+use units::words::copy_at;
+use units::words::shorter;
 ghost use Prim.Native.Nat.{_≤_};
 ghost use lib.ListN.{length};
 
@@ -46,28 +48,11 @@ pub fn past(line: &[u64], at: usize) -> &[u64] {
     &line[end..]
 }
 
-pub fn smaller(a: usize, b: usize) -> usize
-    ensures { λ r. ⌜ (r ≤ a) × (r ≤ b) ⌝ }
-{
-    if a < b { a } else { b }
-}
-
-// Copies words to the front of `out`, as many as it has room for, and tells how many.
-fn copied(words: &[u64], out: &mut [u64]) -> usize
-    ensures { λ r. ⌜ r ≤ length (now (out .exit)) ⌝ }
-{
-    let len = smaller(words.len(), out.len());
-    let mut i = 0;
-    while i < len {
-        out[i] = words[i];
-        i += 1;
-    }
-    len
-}
-
-// The same of the words of the slice at a place.
+// Copies the words of the slice at a place to the front of `out`, as many as it has room for, and tells how many.
 pub fn copied_at(line: &[u64], at: usize, out: &mut [u64]) -> usize
     ensures { λ r. ⌜ r ≤ length (now (out .exit)) ⌝ }
 {
-    copied(part(line, at), out)
+    let words = part(line, at);
+    copy_at(out, 0, words);
+    shorter(words.len(), out.len())
 }

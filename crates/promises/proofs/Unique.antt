@@ -4,6 +4,7 @@ use Prim.Native.Nat.{ℕ, _≤_, _<_, min}
 use mathlib.Core.Path.{_≡_, sym, ap, _∙_}
 use mathlib.Core.List.{List, [], _∷_}
 use lib.ListN.{length, getD}
+use lib.Seq.{sets}
 use native.Mathlib.Omega.{arith}
 use Rattle.units.specs.Units.{indexOf, termOf}
 use Rattle.units.specs.Refusals.{refusalOf, bothChecks}
@@ -98,6 +99,12 @@ check-and self next = one-answer
 
 pub smaller-of-two : (a b : ℕ) → OneAnswer (_≡ min a b)
 smaller-of-two a b = one-answer
+
+pub shorter-of-two : (a b : ℕ) → OneAnswer (_≡ min a b)
+shorter-of-two a b = one-answer
+
+pub copy-at : (to : List ℕ) (at : ℕ) (from : List ℕ) → OneAnswer (λ to′. to′ ≡ sets to at from)
+copy-at to at from = one-answer
 
 -- ---- quorum: one voter set (majority.rs)
 

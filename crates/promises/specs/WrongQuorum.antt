@@ -6,6 +6,7 @@ use mathlib.Core.Logic.{_≢_}
 use mathlib.Core.Bool.{true, false, cond}
 use mathlib.Core.List.{List, [], _∷_, _++_}
 use lib.ListN.{length, replicate}
+use lib.Seq.{sets}
 use lib.Dec.{leb}
 use Rattle.units.specs.Units.{wordMax, indexLimit, indexOf, termOf}
 use Rattle.units.specs.Refusals.{brokenState, noRoom, brokenSet, refusalOf, bothChecks}
@@ -40,6 +41,10 @@ use Rattle.peer_tables.specs.declared.Table.{Table}
 use Rattle.promises.specs.Cases.{idsFrom, votersFrom, threeVoters, voterTwice, halves, acked, acking, voting, upTo, threeAndTwo}
 
 -- ---- inputs
+
+-- Words to copy into.
+abbrev pub fourWords : List ℕ
+fourWords = 1 ∷ 2 ∷ 3 ∷ 4 ∷ []
 
 -- What `Voters::new` answers with nothing refused, and this set.
 abbrev pub fineSet : Voters → Made
@@ -104,6 +109,14 @@ pub record WrongQuorum : Type 0 where
   pub smaller-larger : min 2 5 ≢ 5
   -- The smaller of 5 and 2: the first.
   pub smaller-first : min 5 2 ≢ 5
+  -- Five words, and room for three: five.
+  pub shorter-longer : min 5 3 ≢ 5
+  -- Three words, and room for three: two, one short of the end.
+  pub shorter-one-less : min 3 3 ≢ 2
+  -- 8 and 9 into 1, 2, 3, 4 from place 1 on: the word behind them cleared.
+  pub copy-at-clears-behind : sets fourWords 1 (8 ∷ 9 ∷ []) ≢ 1 ∷ 8 ∷ 9 ∷ 0 ∷ []
+  -- 7, 8 and 9 into them from place 2 on: nothing copied, since there is room for two.
+  pub copy-at-all-or-nothing : sets fourWords 2 (7 ∷ 8 ∷ 9 ∷ []) ≢ fourWords
   -- ---- quorum: one voter set
   -- The empty set: one voter, of the id 0.
   pub voters-empty-counts : noVoters ≢ setOf (0 ∷ [])

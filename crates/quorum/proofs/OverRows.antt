@@ -1,7 +1,7 @@
 -- The functions over lent rows, as the walks by hand cite them: their types, their signatures, and what they promise.
 --     voters, configs, ..      the types that are passed by value.        Lent κ x         what a `&[Peer]` owns
 --     of-two, of-rows, over-rows       the signatures: of two values; of the rows and a value; of a value and the rows
---     reads-row, reads-value, takes-smaller, gathers         the promises of `row`, `value`, `smaller` and `gather`.        asked        the promise of a question over lent rows
+--     reads-row, reads-value, takes-shorter, gathers         the promises of `row`, `value`, `shorter` and `gather`.        asked        the promise of a question over lent rows
 use mathlib.Core.List.{List, [], _∷_}
 use Prim.Native.Nat.{_<_, min}
 use lib.ListN.{length, getD}
@@ -73,8 +73,8 @@ reads-row = record { signature = of-rows numbers peers; asks = λ 𝓤 κs args.
 abbrev pub reads-value : Promise
 reads-value = always (of-two peers questions numbers) (λ κs args. valueFor (args .1 .0) (args .0))
 
-abbrev pub takes-smaller : Promise
-takes-smaller = always (of-two numbers numbers numbers) (λ κs args. min (args .0) (args .1 .0))
+abbrev pub takes-shorter : Promise
+takes-shorter = always (of-two numbers numbers numbers) (λ κs args. min (args .0) (args .1 .0))
 
 abbrev pub gathers : Promise
 gathers = always (of-rows questions rows) (λ κs args. gathered (args .1 .0) (now (args .0)))

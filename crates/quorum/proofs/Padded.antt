@@ -1,4 +1,4 @@
--- Laws of `padded`: a list lies at the front of an array with zeros behind it, and a store or a copy at its end makes it longer.
+-- Laws of `padded`: a list lies at the front of an array with zeros behind it, and what is stored at its end makes it longer.
 use Prim.Native.Nat.{ℕ, zero, suc, _+_, _-_, _≤_, _<_, min}
 use mathlib.Core.Path.{_≡_, refl, sym, ap, _∙_}
 use mathlib.Core.List.{List, [], _∷_, _++_, map, map-append}
@@ -6,8 +6,8 @@ use native.Mathlib.Omega.{arith}
 use native.Mathlib.Nat.{zero-sub}
 use native.Mathlib.Numerals.{add-one, unary-clauses}
 use lib.ListN.{length, getD, set, take, drop, replicate, length-append, length-map, length-take, length-replicate}
-use lib.Seq.{paste, take-all, take-nil, take-length, take-append-seam, drop-append-seam, drop-append-add, set-append-seam, append-snoc, take-suc, length-take-le}
-use Rattle.units.proofs.Lists.{drop-replicate}
+use lib.Seq.{sets, take-all, take-nil, take-append-seam, drop-append-seam, take-suc, length-take-le}
+use Rattle.units.proofs.Lists.{sets-cons, sets-out}
 use Rattle.quorum.specs.Ids.{padded}
 use Rattle.quorum.proofs.Front.{Front, front}
 
@@ -51,35 +51,16 @@ front-padded f n xs h = laid n (length xs) (map f xs) (padded n (map f xs)) refl
 pub replace-padded : (n : ℕ) (xs ys : List ℕ) → length xs ≤ n → length ys ≡ length xs → ys ++ drop (length xs) (padded n xs) ≡ padded n ys
 replace-padded n xs ys fits e = rw (drop-padded n xs fits) (ap (λ (k : ℕ). ys ++ zeros (n - k)) (sym e) ∙ sym (padded-fits n ys (omega arith)))
 
--- A list that is copied to the end of the one that the array holds.
-pub paste-padded : (n : ℕ) (xs ys : List ℕ) → length xs + length ys ≤ n → paste (padded n xs) (length xs) ys (length ys) ≡ padded n (xs ++ ys)
-paste-padded n xs ys h =
-    let fits : length xs ≤ n = omega arith in
-    let rest : n - length xs - length ys ≡ n - length (xs ++ ys) = omega (arith, length-append xs ys) in
-    let behind : drop (length xs + length ys) (padded n xs) ≡ zeros (n - length (xs ++ ys))
-    = ap (drop (length xs + length ys)) (padded-fits n xs fits) ∙ drop-append-add xs (zeros (n - length xs)) (length ys) ∙ drop-replicate (length ys) (n - length xs) 0 ∙ ap zeros rest in
-    rw (take-padded n xs fits, take-length, behind) (sym (padded-fits n (xs ++ ys) (omega (arith, length-append xs ys))))
+-- A list that is stored at the end of the one that the array holds: what there is no room for does not count.
+pub sets-zeros : (n : ℕ) (ys : List ℕ) → sets (replicate n 0) 0 ys ≡ padded n ys
+sets-zeros zero ys = rw zero-sub (sets-out [] 0 ys (omega arith))
+sets-zeros (suc n) [] = padded-none (suc n)
+sets-zeros (suc n) (y ∷ ys) = simp unary-clauses (sets-cons y (zeros n) 0 ys ∙ ap (λ (zs : List ℕ). y ∷ zs) (sets-zeros n ys))
 
-pub paste-zeros : (n : ℕ) (ys : List ℕ) → length ys ≤ n → paste (replicate n 0) 0 ys (length ys) ≡ padded n ys
-paste-zeros n ys h = ap (λ (l : List ℕ). paste l 0 ys (length ys)) (padded-none n) ∙ paste-padded n [] ys (omega arith)
-
--- What an array has no room for does not count.
-pub padded-cut : (n : ℕ) (xs : List ℕ) → n ≤ length xs → padded n (take n xs) ≡ padded n xs
-padded-cut n xs h =
-    let cut : length (take n xs) ≡ n = length-take-le n xs h in
-    let rest : n - length (take n xs) ≡ n - length xs = omega arith in
-    rw (take-all n (take n xs) (omega arith), rest)
-
--- A word that is stored there.
-pub set-padded : (n : ℕ) (xs : List ℕ) (x : ℕ) → length xs < n → set (padded n xs) (length xs) x ≡ padded n (xs ++ (x ∷ []))
-set-padded n xs x h =
-    let longer : length (xs ++ (x ∷ [])) ≡ length xs + 1 = length-append xs (x ∷ []) in
-    let rest : n - length xs ≡ suc (n - length (xs ++ (x ∷ []))) = omega arith in
-    let behind : List ℕ = zeros (n - length (xs ++ (x ∷ []))) in
-    ap (λ (l : List ℕ). set l (length xs) x) (padded-fits n xs (omega arith) ∙ ap (λ (k : ℕ). xs ++ zeros k) rest)
-    ∙ set-append-seam xs 0 behind x
-    ∙ sym (append-snoc xs x behind)
-    ∙ sym (padded-fits n (xs ++ (x ∷ [])) (omega arith))
+pub sets-padded : (n : ℕ) (xs ys : List ℕ) → sets (padded n xs) (length xs) ys ≡ padded n (xs ++ ys)
+sets-padded n [] ys = ap (λ (l : List ℕ). sets l 0 ys) (sym (padded-none n)) ∙ sets-zeros n ys
+sets-padded zero (x ∷ xs) ys = simp zero-sub (sets-out [] (suc (length xs)) ys (omega arith))
+sets-padded (suc n) (x ∷ xs) ys = simp unary-clauses (sets-cons x (padded n xs) (length xs) ys ∙ ap (λ (zs : List ℕ). x ∷ zs) (sets-padded n xs ys))
 
 -- A loop that fills an array with f of the elements of a list: one turn is one store, and the last turn leaves nothing out that fits.
 module _ {A : Type 0} (f : A → ℕ) (d : A) where
@@ -87,7 +68,7 @@ module _ {A : Type 0} (f : A → ℕ) (d : A) where
   filled-more n i xs h g =
       let len : length (map f (take i xs)) ≡ i = length-map (take i xs) f ∙ length-take-le i xs (omega arith) in
       ap (λ (k : ℕ). set (padded n (map f (take i xs))) k (f (getD xs i d))) (sym len)
-      ∙ set-padded n (map f (take i xs)) (f (getD xs i d)) (omega arith)
+      ∙ sets-padded n (map f (take i xs)) (f (getD xs i d) ∷ [])
       ∙ ap (padded n) (sym (map-append f (take i xs) (getD xs i d ∷ [])) ∙ ap (map f) (sym (take-suc xs i d g)) ∙ ap (λ (k : ℕ). map f (take k xs)) (sym (add-one i)))
 
 pub filled-all : {A : Type 0} (f : A → ℕ) (n i : ℕ) (xs : List A) → i ≡ min (length xs) n → padded n (map f (take i xs)) ≡ padded n (map f xs)

@@ -1,10 +1,7 @@
-// Lists of ids: where one stands, that none stands twice, and room for a copy.
+// Lists of ids: where one stands, and that none stands twice.
 use units::Check;
 use units::refusal::BROKEN_SET;
 ghost use mathlib.Core.Path.{_≡_};
-ghost use Prim.Native.Nat.{_+_, _≤_};
-ghost use lib.ListN.{length};
-ghost use lib.Seq.{paste};
 ghost use Rattle.quorum.specs.Ids.{position as positionOf, distinct as distinctOf, checkOf};
 
 // Where `id` first stands in `ids`; the length where it does not.
@@ -48,16 +45,4 @@ pub fn checked(ids: &[u64], count: usize) -> Check
         return Check::Fine;
     }
     Check::Refused(BROKEN_SET)
-}
-
-// Copies `from` into `to`, from place `at` on.
-pub fn copy_at(to: &mut [u64], at: usize, from: &[u64])
-    requires { ⌜ at + length (now from) ≤ length (now to) ⌝ }
-    ensures { λ _. ⌜ now (to .exit) ≡ paste (now (to .entry)) at (now (from .entry)) (length (now (from .entry))) ⌝ }
-{
-    let mut i = 0;
-    while i < from.len() {
-        to[at + i] = from[i];
-        i += 1;
-    }
 }

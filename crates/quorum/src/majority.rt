@@ -8,6 +8,7 @@ use crate::rows::gather;
 use units::Check;
 use units::Index;
 use units::refusal::BROKEN_SET;
+use units::words::copy_at;
 ghost use mathlib.Core.Path.{_≡_};
 ghost use Rattle.quorum.specs.Voters.{votersCheck, setOf, noVoters, made};
 ghost use Rattle.quorum.specs.Majority.{committedIndex, voteResult, plainIndex, plainResult};
@@ -60,11 +61,7 @@ impl Voters {
     {
         let count = ids.len();
         let mut copy = [0u64; Voters::LIMIT];
-        if Voters::LIMIT < count {
-            crate::ids::copy_at(&mut copy, 0, &ids[..Voters::LIMIT]);
-            return Self { ids: copy, count };
-        }
-        crate::ids::copy_at(&mut copy, 0, ids);
+        copy_at(&mut copy, 0, ids);
         Self { ids: copy, count }
     }
 

@@ -1,8 +1,9 @@
 // Peer rows: what each peer has acknowledged and how it has voted, lent as a slice, or gathered as plain numbers.
 use units::Check;
 use units::Index;
+use units::words::shorter;
 ghost use mathlib.Core.Path.{_≡_};
-ghost use Prim.Native.Nat.{_<_, min};
+ghost use Prim.Native.Nat.{_<_};
 ghost use lib.ListN.{length, getD};
 ghost use Rattle.quorum.specs.Rows.{nobody, ackNumber, voteNumber, valueFor, gathered, plainCheck};
 
@@ -92,18 +93,12 @@ fn row(peers: &[Peer], at: usize) -> Peer
     peers[at]
 }
 
-fn smaller(a: usize, b: usize) -> usize
-    ensures { λ r. ⌜ r ≡ min a b ⌝ }
-{
-    if a < b { a } else { b }
-}
-
 // The lent rows as plain numbers, for one question. What is beyond the limit is counted and not read.
 pub fn gather(peers: &[Peer], question: Question) -> Rows
     ensures { λ r. ⌜ r ≡ gathered question (now (peers .entry)) ⌝ }
 {
     let count = peers.len();
-    let end = smaller(count, Rows::LIMIT);
+    let end = shorter(count, Rows::LIMIT);
     let mut ids = [0u64; Rows::LIMIT];
     let mut values = [0u64; Rows::LIMIT];
     let mut i = 0;

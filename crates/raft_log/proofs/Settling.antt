@@ -1,9 +1,11 @@
 -- The laws of specs/Settle.antt: one for each answer of `stable_entries`, what an answer that is no refusal tells, and the settled store after each.
-use mathlib.Core.Path.{_≡_, sym, ap}
+use mathlib.Core.Path.{_≡_, sym, ap, _∙_}
 use mathlib.Core.Bool.{true, false, not}
-use mathlib.Core.List.{List}
+use mathlib.Core.List.{List, _++_}
 use Prim.Native.Nat.{ℕ, _+_, _-_, _*_, _≤_, _<_}
-use lib.Seq.{paste}
+use native.Mathlib.Omega.{arith}
+use lib.ListN.{length, take, drop}
+use lib.Seq.{sets, sets-eq, paste, length-take-le}
 use borrow.Author.Tests.{eq-eqb, ne-eqb, lt-ltb, le-ltb, eqb-true, eqb-false, ltb-false, not-true}
 use Rattle.units.specs.Refusals.{brokenState, noRoom, notPending}
 use Rattle.raft_log.specs.declared.Log.{Log}
@@ -51,6 +53,12 @@ module _ (l : Log) (settled pending : List ℕ) (i t : ℕ) where
     unfolding stableEntries
     settle-done last e r g = simp (e, h, le-ltb _ _ r, last-test g)
 
+-- the first n words of one store, stored into another that has room for them
+sets-paste : (to : List ℕ) (at : ℕ) (from : List ℕ) (n : ℕ) → at + n ≤ length to → n ≤ length from → sets to at (take n from) ≡ paste to at from n
+sets-paste to at from n here there =
+    let long = length-take-le n from there in
+    sets-eq (take n from) to at (omega arith) ∙ ap (λ (k : ℕ). take at to ++ take n from ++ drop (at + k) to) long
+
 pub no-now : {r : ℕ} {a : Log} → Refused r ≡ Now a → ⊥
 no-now h = never cc
 
@@ -72,8 +80,7 @@ module _ (l : Log) (settled pending : List ℕ) where
   unfolding stableEntriesStore
   settled-kept e = sym (ap (λ (x : Changed). stableEntriesStore x l settled pending) e)
 
-  pub settled-pasted : {x : Changed} {a : Log} → x ≡ Now a
-      → paste settled ((l .offset .0 - 1 - l .start .0) * recordWords) pending (l .count * recordWords)
-      ≡ stableEntriesStore x l settled pending
+  pub settled-copied : {x : Changed} {a : Log} → x ≡ Now a → (l .offset .0 - 1 - l .start .0) * recordWords + l .count * recordWords ≤ length settled → l .count * recordWords ≤ length pending
+      → sets settled ((l .offset .0 - 1 - l .start .0) * recordWords) (take (l .count * recordWords) pending) ≡ stableEntriesStore x l settled pending
   unfolding stableEntriesStore
-  settled-pasted e = sym (ap (λ (x : Changed). stableEntriesStore x l settled pending) e)
+  settled-copied e here there = sets-paste settled _ pending _ here there ∙ sym (ap (λ (x : Changed). stableEntriesStore x l settled pending) e)

@@ -20,6 +20,7 @@ use units::refusal::NOT_PENDING;
 use units::refusal::OUT_OF_RANGE;
 use units::refusal::ZERO_TERM;
 use units::smaller;
+use units::words::copy_at;
 use words::store_term;
 ghost use mathlib.Core.Path.{_≡_};
 ghost use Prim.Native.Nat.{_+_, _-_, _≤_, _<_};
@@ -368,7 +369,7 @@ impl Log {
         };
         let at = (self.offset.0 - 1 - self.start.0) as usize;
         let n = self.count as usize;
-        words::copy_words(settled, at * Log::WORDS, pending, n * Log::WORDS);
+        copy_at(settled, at * Log::WORDS, &pending[..n * Log::WORDS]);
         answer
     }
 

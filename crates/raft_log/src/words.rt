@@ -3,7 +3,6 @@ use crate::Log;
 ghost use mathlib.Core.Path.{_≡_};
 ghost use Prim.Native.Nat.{_+_, _*_, _≤_, _<_};
 ghost use lib.ListN.{length};
-ghost use lib.Seq.{paste};
 ghost use Rattle.raft_log.specs.Words.{runWords, room, storeTerm, runCount, runIndex, runTerm, recordOf, putRecord, putRun, firstFrom, otherTerm};
 
 // How many whole records a store has room for.
@@ -87,16 +86,4 @@ pub fn same_terms(store: &[u64], at: u64, run: &[u64], k: u64, n: u64) -> u64
         i += 1;
     }
     n
-}
-
-// The first n words of `from` in place of those of `to` from word `at` on.
-pub fn copy_words(to: &mut [u64], at: usize, from: &[u64], n: usize)
-    requires { ⌜ (at + n ≤ length (now to)) × (n ≤ length (now from)) ⌝ }
-    ensures { λ _. ⌜ now (to .exit) ≡ paste (now (to .entry)) at (now (from .entry)) n ⌝ }
-{
-    let mut i = 0;
-    while i < n {
-        to[at + i] = from[i];
-        i += 1;
-    }
 }

@@ -1,12 +1,10 @@
--- Laws of lists, for elements of any type: of `listed`, of `Each`, and of parts.
+-- Laws of lists, for elements of any type: of `listed`, of `Each`, of parts, and of runs of stores.
 use mathlib.Core.Path.{_≡_, refl, ap, ap₂, _∙_}
 use mathlib.Core.List.{List, [], _∷_, _++_, map}
 use Prim.Native.Nat.{ℕ, zero, suc, _+_, _-_, _≤_, _<_}
 use native.Mathlib.Omega.{arith}
-use native.Mathlib.Nat.{zero-sub}
-use native.Mathlib.Numerals.{unary-clauses}
-use lib.ListN.{length, getD, set, take, drop, replicate, length-drop}
-use lib.Seq.{take-all}
+use lib.ListN.{length, getD, set, take, drop, length-drop}
+use lib.Seq.{sets, set-out, take-all}
 use Rattle.units.specs.Lists.{listed, Each}
 
 -- ---- what a function gives
@@ -100,12 +98,19 @@ module _ {A : Type 0} where
   pub to-the-end : (l : List A) (a : ℕ) → take (length l - a) (drop a l) ≡ drop a l
   to-the-end l a = take-all (length l - a) (drop a l) (omega (arith, length-drop a l))
 
-  pub drop-replicate : (k n : ℕ) (x : A) → drop k (replicate n x) ≡ replicate (n - k) x
-  drop-replicate zero n x = simp unary-clauses
-  drop-replicate (suc k) zero x = rw zero-sub
-  drop-replicate (suc k) (suc n) x = simp unary-clauses (drop-replicate k n x)
-
   pub map-set : {B : Type 0} (f : A → B) (l : List A) (i : ℕ) (y : A) → set (map f l) i (f y) ≡ map f (set l i y)
   map-set f [] i y = refl
   map-set f (x ∷ xs) zero y = refl
   map-set {B} f (x ∷ xs) (suc i) y = ap (λ (zs : List B). f x ∷ zs) (map-set f xs i y)
+
+-- ---- runs of stores
+
+module _ {A : Type 0} where
+  pub sets-cons : (x : A) (l : List A) (i : ℕ) (vs : List A) → sets (x ∷ l) (suc i) vs ≡ x ∷ sets l i vs
+  sets-cons x l i [] = refl
+  sets-cons x l i (v ∷ vs) = sets-cons x (set l i v) (suc i) vs
+
+  -- behind the end nothing is stored
+  pub sets-out : (l : List A) (i : ℕ) (vs : List A) → length l ≤ i → sets l i vs ≡ l
+  sets-out l i [] h = refl
+  sets-out l i (v ∷ vs) h = ap (λ (x : List A). sets x (suc i) vs) (set-out l i v h) ∙ sets-out l (suc i) vs (omega arith)

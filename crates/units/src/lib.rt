@@ -1,5 +1,6 @@
-// What every crate above counts in: log indices, terms, and the refusals by name.
+// What every crate above counts in: log indices, terms, and the refusals by name; and how it copies words.
 pub mod refusal;
+pub mod words;
 
 ghost use mathlib.Core.Path.{_≡_};
 ghost use Prim.Native.Nat.{min};

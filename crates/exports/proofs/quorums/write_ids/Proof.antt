@@ -21,14 +21,17 @@ returns c = rw (c .refusal .ensures, c .before .enum-told2 .given .1)
 slice-write-answer : tie.Need-slice-write-answer
 slice-write-answer c = search needs
 
-store-ids-requires : tie.Need-store-ids-requires
-store-ids-requires c κs = search needs
+slice-aggregate-copy-at : tie.Need-slice-aggregate-copy-at
+slice-aggregate-copy-at c = search needs
+
+copy-at-requires : tie.Need-copy-at-requires
+copy-at-requires c κs = search needs
 
 same-length : tie.Need-same-length
-same-length c = ap length (c .before .before .store-ids .ensures) ∙ simp (length-sets, length-set)
+same-length c = ap length (c .before .before .copy-at .ensures) ∙ simp (length-sets, length-set)
 
 returns-2 : tie.Need-returns-2
-returns-2 c = rw (c .before .before .before .before .before .enum-told .given .1, c .before .before .store-ids .ensures)
+returns-2 c = rw (c .before .before .before .before .before .before .enum-told .given .1, c .before .before .copy-at .ensures)
 
 pub write-ids-spec : {M : Type 1} → statement M
 write-ids-spec =
@@ -39,6 +42,7 @@ write-ids-spec =
     refusal-requires
     returns
     slice-write-answer
-    store-ids-requires
+    slice-aggregate-copy-at
+    copy-at-requires
     same-length
     returns-2)

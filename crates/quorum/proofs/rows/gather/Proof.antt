@@ -45,7 +45,7 @@ use Rattle.quorum.specs.declared.rows.Rows.{Rows}
 use Rattle.units.proofs.ByValue.{numbers, At, fits-at, made}
 use Rattle.units.proofs.Exact.{Exact, calls, Params, valued, shared, End, ends, meets}
 use Rattle.units.proofs.Numbers.{below-or-not}
-use Rattle.quorum.proofs.OverRows.{peers, questions, rows, Lent, reads-row, reads-value, takes-smaller, gathers}
+use Rattle.quorum.proofs.OverRows.{peers, questions, rows, Lent, reads-row, reads-value, takes-shorter, gathers}
 use Rattle.quorum.proofs.Padded.{length-padded, padded-none, filled-more, filled-all}
 use Rattle.quorum.proofs.Words.{words, holds, blank, blank-typed, words-are, stores-word}
 use Rattle.quorum.proofs.rows.Peer as P
@@ -58,8 +58,8 @@ use Rattle.quorum.proofs.rows.row.Symbol as row-def
 use Rattle.quorum.proofs.rows.row.Met as row-thm
 use Rattle.quorum.proofs.rows.value.Symbol as value-def
 use Rattle.quorum.proofs.rows.value.Met as value-thm
-use Rattle.quorum.proofs.rows.smaller.Symbol as smaller-def
-use Rattle.quorum.proofs.rows.smaller.Met as smaller-thm
+use Rattle.units.proofs.words.shorter.Symbol as shorter-def
+use Rattle.units.proofs.words.shorter.Met as shorter-thm
 use Rattle.quorum.proofs.rows.gather.Key.{name as #quorum·gather}
 use Rattle.quorum.proofs.rows.gather.Statement as stated
 use Rattle.quorum.proofs.rows.gather.Code as code
@@ -132,7 +132,7 @@ module _ {M : Type 1} (𝓤 : URA M) (H : Heap 𝓤) (A : Atoms 𝓤) (W : Given
     (refl, (words-are rowLimit (ids i) (length-padded rowLimit (map idOf (take i ys))) wi, (words-are rowLimit (values i) (length-padded rowLimit (map (valueFor s) (take i ys))) wv, ((refl, room .0), tt)))),
   )
 
-  module _ (𝓣 : Tables 𝓤 H) (known-row : Triple 𝓤 (𝓣 .C row-def.name) (Exact 𝓤 reads-row H A)) (known-value : Triple 𝓤 (𝓣 .C value-def.name) (Exact 𝓤 reads-value H A)) (known-smaller : Triple 𝓤 (𝓣 .C smaller-def.name) (Exact 𝓤 takes-smaller H A)) where
+  module _ (𝓣 : Tables 𝓤 H) (known-row : Triple 𝓤 (𝓣 .C row-def.name) (Exact 𝓤 reads-row H A)) (known-value : Triple 𝓤 (𝓣 .C value-def.name) (Exact 𝓤 reads-value H A)) (known-shorter : Triple 𝓤 (𝓣 .C shorter-def.name) (Exact 𝓤 takes-shorter H A)) where
     abbrev C : Calls 𝓤 H
     C = 𝓣 .C
 
@@ -246,7 +246,7 @@ module _ {M : Type 1} (𝓤 : URA M) (H : Heap 𝓤) (A : Atoms 𝓤) (W : Given
         move ! (37 ∷ []) $ fsplit ! $ move ! (1 ∷ []) $ drop ! $ move ! (37 ∷ 0 ∷ []) $
         assigns ! (of-opd ! (load ! (from ! (fld ! refl (stop !))) (look-in ! 34 (sub ! 1 refl (whole !))))) (from ! (stop !)) (init ! 30 refl (tt, record { fits = room .0 })) $
         nothing ! $ made numbers ! rowLimit _ (refl, lit< tt) $ fjoin ! $ made numbers ! (length ys) _ (refl, room .0) $ fjoin ! $ use0 W (raw (emp 𝓤)) (id⊢ 𝓤 (emp 𝓤)) $
-        calls ! fm takes-smaller known-smaller (tt, tt, tt, (length ys, (rowLimit, tt)), (vint w64 (length ys) ∷ [], (vint w64 rowLimit ∷ [], tt))) (id⊢ 𝓤 (emp 𝓤)) (numbers .lowers)
+        calls ! fm takes-shorter known-shorter (tt, tt, tt, (length ys, (rowLimit, tt)), (vint w64 (length ys) ∷ [], (vint w64 rowLimit ∷ [], tt))) (id⊢ 𝓤 (emp 𝓤)) (numbers .lowers)
         (and-then ! (load ! (from ! (stop !)) (look ! 31 refl)) (and-then ! (lit ! tt) (no-more !))) (λ ise. drop ! $
         land ! (from ! (stop !)) (init ! 28 refl (tt, record { fits = ise .1 })) $
         assigns ! (rep ! rowLimit (lit ! tt)) (from ! (stop !)) (init ! 26 refl (blank-typed rowLimit)) $
@@ -263,4 +263,4 @@ gather-spec 𝓤 H 𝓜 𝓖 𝓡 =
     (walk 𝓤 H (𝓖 .A) (givenOf 𝓤 H 𝓜 𝓖) (κs .0) (qs .0) (a .0) (are .0 .0 .1) (a .1 .0) (are .1 .0) (tablesOf 𝓤 H 𝓜 (tables 𝓤 H 𝓜 𝓡 code.env))
     (cited 𝓤 H _ 𝓜 𝓡 code.env row-def.name row-def.routine code.calls-quorum·rows·row (row-thm.met 𝓤 H 𝓜 𝓖 𝓡))
     (cited 𝓤 H _ 𝓜 𝓡 code.env value-def.name value-def.routine code.calls-quorum·rows·value (value-thm.met 𝓤 H 𝓜 𝓖 𝓡))
-    (cited 𝓤 H _ 𝓜 𝓡 code.env smaller-def.name smaller-def.routine code.calls-quorum·rows·smaller (smaller-thm.met 𝓤 H 𝓜 𝓖 𝓡))))
+    (cited 𝓤 H _ 𝓜 𝓡 code.env shorter-def.name shorter-def.routine code.calls-units·words·shorter (shorter-thm.met 𝓤 H 𝓜 𝓖 𝓡))))

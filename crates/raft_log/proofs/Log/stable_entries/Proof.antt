@@ -2,7 +2,8 @@
 use mathlib.Core.Path.{sym, _∙_}
 use native.Mathlib.Omega.{arith}
 use borrow.Author.Needs.{needs}
-use Rattle.raft_log.proofs.Settling.{settle-room, settled-kept, settled-pasted}
+use lib.Seq.{length-take-le}
+use Rattle.raft_log.proofs.Settling.{settle-room, settled-kept, settled-copied}
 use Rattle.raft_log.proofs.Log.stable_entries.Statement.{statement}
 use Rattle.raft_log.proofs.Log.stable_entries.Tie as tie
 
@@ -33,31 +34,35 @@ sub-at-2 c =
     let r = settle-room _ _ _ _ _ (sym (a .before .before .stable-entries-answer .ensures) ∙ a .enum-told .given .1) in
     omega arith
 
-mul-copy-words : tie.Need-mul-copy-words
-mul-copy-words c =
+mul-copy-at : tie.Need-mul-copy-at
+mul-copy-at c =
     let a = c .before .before .before in
     let r = settle-room _ _ _ _ _ (sym (a .before .before .stable-entries-answer .ensures) ∙ a .enum-told .given .1) in
     omega arith
 
-mul-copy-words-2 : tie.Need-mul-copy-words-2
-mul-copy-words-2 c =
+mul-copy-at-2 : tie.Need-mul-copy-at-2
+mul-copy-at-2 c =
     let a = c .before .before .before in
     let r = settle-room _ _ _ _ _ (sym (a .before .before .stable-entries-answer .ensures) ∙ a .enum-told .given .1) in
     omega arith
 
-copy-words-requires : tie.Need-copy-words-requires
-copy-words-requires c κs =
-    let a = c .before .before .before in
+slice-aggregate-copy-at : tie.Need-slice-aggregate-copy-at
+slice-aggregate-copy-at c =
+    let a = c .before .before .before .before in
     let r = settle-room _ _ _ _ _ (sym (a .before .before .stable-entries-answer .ensures) ∙ a .enum-told .given .1) in
-    omega arith
+    sym (length-take-le _ _ (omega arith))
+
+copy-at-requires : tie.Need-copy-at-requires
+copy-at-requires c κs = search needs
 
 same-length-2 : tie.Need-same-length-2
 same-length-2 c = search needs
 
 returns-2 : tie.Need-returns-2
 returns-2 c =
-    let a = c .before .before .before .before .before .before in
-    (a .before .before .stable-entries-answer .ensures, c .before .before .copy-words .ensures ∙ settled-pasted _ _ _ (a .enum-told .given .1))
+    let a = c .before .before .before .before .before .before .before in
+    let r = settle-room _ _ _ _ _ (sym (a .before .before .stable-entries-answer .ensures) ∙ a .enum-told .given .1) in
+    (a .before .before .stable-entries-answer .ensures, c .before .before .copy-at .ensures ∙ settled-copied _ _ _ (a .enum-told .given .1) (omega arith) (omega arith))
 
 pub stable-entries-spec : {M : Type 1} → statement M
 stable-entries-spec =
@@ -70,8 +75,9 @@ stable-entries-spec =
     returns
     sub-at
     sub-at-2
-    mul-copy-words
-    mul-copy-words-2
-    copy-words-requires
+    mul-copy-at
+    mul-copy-at-2
+    slice-aggregate-copy-at
+    copy-at-requires
     same-length-2
     returns-2)
