@@ -1,15 +1,17 @@
 -- What a caller may read off a result, call by call in the order of include/deckplover.h. 01, "Refusals": "Every refusal returns its number alone and changes nothing."; and 0 is no refusal's number.
 use mathlib.Core.Path.{_≡_, refl}
-use mathlib.Core.Bool.{Bool, true, false, not, _&&_, _||_}
+use mathlib.Core.Bool.{Bool, true, false, not, cond, _||_}
+use mathlib.Core.Logic.{_≢_}
 use mathlib.Core.List.{List, [], _∷_, map}
 use Prim.Native.Nat.{ℕ, _-_, min}
 use native.Mathlib.Omega.{arith}
 use lib.Dec.{eqb, leb, ltb}
 use lib.ListN.{length}
-use Rattle.units.specs.Refusals.{refusalOf, fineOr, bothChecks, isUnless}
+use Rattle.units.specs.Refusals.{brokenState, refusalOf, bothChecks, unless}
 use Rattle.units.specs.declared.Check.{Check}
 use Rattle.units.specs.declared.Check.the-variants as check
 use Rattle.units.specs.declared.YesOrNo.the-variants as yes-or-no
+use Rattle.units.proofs.Checks.{Refuses, rule-refuses, both-refuse, either-answer}
 use Rattle.units.proofs.Cond.{both-ends}
 use Rattle.units.proofs.Never.{never}
 use Rattle.raft_log.specs.Words.{runCount}
@@ -38,11 +40,11 @@ use Rattle.raft_log.specs.declared.ByTerm.the-variants as byterm
 use Rattle.raft_log.specs.declared.Bounds.{Bounds}
 use Rattle.raft_log.specs.declared.Bounds.the-variants as bounds
 use Rattle.quorum.specs.Limits.{voterLimit, rowLimit}
-use Rattle.quorum.specs.Ids.{distinct}
+use Rattle.quorum.specs.Ids.{fewDistinct}
 use Rattle.quorum.specs.Rows.{idOf, rowsCheck}
 use Rattle.quorum.specs.Voters.{votersOf, votersCheck, setOf}
-use Rattle.quorum.specs.Majority.{indexUnless as committedUnless, resultUnless, committedIndex, voteResult}
-use Rattle.quorum.specs.Joint.{configCheck, bothIds, listedUnless, jointIndex, jointVerdict, singleton, containsOf, idsAnswer}
+use Rattle.quorum.specs.Majority.{committedIndex, voteResult}
+use Rattle.quorum.specs.Joint.{configCheck, listed, jointIndex, jointVerdict, singleton, containsOf, idsAnswer}
 use Rattle.quorum.specs.declared.Committed.the-variants as committed
 use Rattle.quorum.specs.declared.Verdict.the-variants as verdict
 use Rattle.quorum.specs.declared.joint.JointConfig.{JointConfig}
@@ -50,11 +52,11 @@ use Rattle.quorum.specs.declared.majority.Voters.{Voters}
 use Rattle.quorum.specs.declared.rows.Peer.{Peer}
 use Rattle.leader.specs.Leader.{commitFound, leaderCommit}
 use Rattle.inflights.specs.State.{sound, windowCheck, capCheck, isFull, roomCheck}
-use Rattle.inflights.specs.Calls.{windowUnless, countUnless, ringUnless, madeWindow, setCapCheck, capped, fullness, counted, addCheck, added, ringAfter, freedTo, freedFirst, cleared, rewound}
+use Rattle.inflights.specs.Calls.{windowUnless, ringUnless, madeWindow, setCapCheck, capped, fullness, counted, addCheck, added, ringAfter, freedTo, freedFirst, cleared, rewound}
 use Rattle.inflights.specs.declared.Inflights.{Inflights}
 use Rattle.inflights.specs.declared.Answer.the-variants as window-answer
 use Rattle.inflights.specs.declared.Counted.the-variants as count-is
-use Rattle.exports.specs.Words.{logFrom, Outcome, leaves, yesOrNoLeaves, withStore, unlessShort}
+use Rattle.exports.specs.Words.{logLength, partLength, logFrom, Outcome, leaves, yesOrNoLeaves, withStore, unlessShort, reading}
 use Rattle.exports.specs.LogCalls.{appendedLeaves, extendedLeaves, changedLeaves, decidedLeaves, newLogLeaves, maybeAppendLeaves, appendLeaves, commitToLeaves, maybeCommitLeaves, appliedToLeaves, maybePersistLeaves, stableEntriesLeaves}
 use Rattle.exports.specs.Reads.{lookedLeaves, placedLeaves, infoLeaves, byTermLeaves, boundsLeaves, termLeaves, firstIndexLeaves, lastIndexLeaves, lastTermLeaves, commitInfoLeaves, isUpToDateLeaves, findConflictByTermLeaves, sliceLeaves, entriesLeaves, nextEntriesSinceLeaves, hasNextEntriesSinceLeaves, NamesHeld}
 use Rattle.exports.specs.Rows.{peersFrom, configFrom}
@@ -77,28 +79,19 @@ module _ {A : Type 0} {refused : ℕ → A} {said : A} {slices : List (List ℕ)
   behind : (slice : List ℕ) (words : ℕ) {out : Outcome} → Tells refused said slices out → Tells refused said slices (unlessShort slice words slices out)
   behind slice words {out} tells = by-length slice words slices out (Tells refused said slices) (refuses (omega arith)) (λ h. tells)
 
--- A check that refuses by no 0.
-abbrev Numbered : Check → Type 0
-Numbered c = (n : ℕ) → c ≡ check.Refused n → n ≡ 0 → ⊥
-
--- So are a rule's own check, and both of two such checks.
-fine-numbered : (b : Bool) {number : ℕ} → (number ≡ 0 → ⊥) → Numbered (fineOr b number)
-fine-numbered true h n e z = never cc
-fine-numbered false {number} h n e z = h (let same : number ≡ n = cc in omega arith)
-
-both-numbered : (c : Check) {d : Check} → Numbered c → Numbered d → Numbered (bothChecks c d)
-both-numbered check.Fine g h = h
-both-numbered (check.Refused n) g h = g
-
--- What holds of the refusal by the check's number, and of the answer with what was found, holds of an answer by a check.
-by-check : {A F : Type 0} (P : A → Type 0) (unlessRefused : Check → F → A) (c : Check) (found : F) → Numbered c
-    → ((m : ℕ) → (m ≡ 0 → ⊥) → P (unlessRefused (check.Refused m) found)) → P (unlessRefused check.Fine found) → P (unlessRefused c found)
-by-check P unlessRefused check.Fine found g p q = q
-by-check P unlessRefused (check.Refused m) found g p q = p m (g m refl)
-
 -- An answer that writes one slice tells what happened, by what it leaves of the slice.
 abbrev Answered : {A : Type 0} → (ℕ → A) → (A → List ℕ → Outcome) → List ℕ → A → Type 0
 Answered refused leavesOf slice said = Tells refused said (slice ∷ []) (leavesOf said slice)
+
+-- No refusal's number is 0.
+abbrev Nonzero : ℕ → Type 0
+Nonzero n = n ≢ 0
+
+-- So does an answer by a check of such numbers, behind a test of the slice's length, where each refusal does and what it says otherwise.
+by-check : {A : Type 0} (refused : ℕ → A) (leavesOf : A → List ℕ → Outcome) (slice : List ℕ) (words : ℕ) (k : Check) {said : A} → Refuses Nonzero k
+    → ((m : ℕ) → Nonzero m → Answered refused leavesOf slice (refused m)) → Answered refused leavesOf slice said
+    → Tells refused (unless refused k said) (slice ∷ []) (unlessShort slice words (slice ∷ []) (leavesOf (unless refused k said) slice))
+by-check refused leavesOf slice words k numbered p q = behind _ _ (either-answer refused (Answered refused leavesOf slice) k (λ _. q) (λ m e. p m (numbered m e)))
 
 -- ---- The log
 
@@ -109,44 +102,46 @@ log-new-tells start startterm last settled log =
     (both-ends (Answered changed.Refused changedLeaves log) (not (setupOk start startterm last settled)) (refuses (omega arith))
     (both-ends (Answered changed.Refused changedLeaves log) (settledZero settled (last - start)) (refuses (omega arith)) (answers (λ n e. cc))))
 
-module _ (answer : List ℕ) where
-  bounds-tells : (said : Bounds) (l : Log) (settled pending : List ℕ) → NamesHeld said l settled pending → Tells bounds.Refused said (answer ∷ []) (boundsLeaves said l answer)
-  bounds-tells bounds.Empty l settled pending s = answers (λ n e. cc)
-  bounds-tells (bounds.Settled low high) l settled pending s = answers (λ n e. cc)
-  bounds-tells (bounds.Pending low high) l settled pending s = answers (λ n e. cc)
-  bounds-tells (bounds.Refused number) l settled pending s = refuses s
+-- An answer that names a part, which the store holds.
+bounds-tells : (answer : List ℕ) (said : Bounds) (l : Log) (settled pending : List ℕ) → NamesHeld said l settled pending → Tells bounds.Refused said (answer ∷ []) (boundsLeaves said l answer)
+bounds-tells answer bounds.Empty l settled pending held = answers (λ n e. cc)
+bounds-tells answer (bounds.Settled low high) l settled pending held = answers (λ n e. cc)
+bounds-tells answer (bounds.Pending low high) l settled pending held = answers (λ n e. cc)
+bounds-tells answer (bounds.Refused number) l settled pending held = refuses held
 
 module _ (log settled pending : List ℕ) where
+  -- A call that only reads the log: 1 where that is broken, else what it says.
+  reads : {A : Type 0} (refused : ℕ → A) (leavesOf : A → List ℕ → Outcome) (answer : List ℕ) (words : ℕ) {said : A} → Answered refused leavesOf answer (refused brokenState) → Answered refused leavesOf answer said
+      → let given = cond (broken (logFrom log) settled pending) (refused brokenState) said in Tells refused given (answer ∷ []) (reading log logLength words answer (leavesOf given answer))
+  reads refused leavesOf answer words p q = behind _ _ (behind _ _ (both-ends (Answered refused leavesOf answer) (broken (logFrom log) settled pending) p q))
+
   pub log-term-tells : (i : ℕ) (answer : List ℕ) → Tells looked.Refused (lookTerm (logFrom log) settled pending i) (answer ∷ []) (termLeaves log settled pending i answer)
   unfolding lookTerm
-  log-term-tells i answer = behind _ _ (behind _ _ (both-ends (Answered looked.Refused lookedLeaves answer) (broken (logFrom log) settled pending) (refuses (omega arith)) (answers (λ n e. cc))))
+  log-term-tells i answer = reads looked.Refused lookedLeaves answer _ (refuses (omega arith)) (answers (λ n e. cc))
 
   pub log-first-index-tells : (answer : List ℕ) → Tells placed.Refused (firstIndex (logFrom log) settled pending) (answer ∷ []) (firstIndexLeaves log settled pending answer)
   unfolding firstIndex
-  log-first-index-tells answer = behind _ _ (behind _ _ (both-ends (Answered placed.Refused placedLeaves answer) (broken (logFrom log) settled pending) (refuses (omega arith)) (answers (λ n e. cc))))
+  log-first-index-tells answer = reads placed.Refused placedLeaves answer _ (refuses (omega arith)) (answers (λ n e. cc))
 
   pub log-last-index-tells : (answer : List ℕ) → Tells placed.Refused (lastIndex (logFrom log) settled pending) (answer ∷ []) (lastIndexLeaves log settled pending answer)
   unfolding lastIndex
-  log-last-index-tells answer = behind _ _ (behind _ _ (both-ends (Answered placed.Refused placedLeaves answer) (broken (logFrom log) settled pending) (refuses (omega arith)) (answers (λ n e. cc))))
+  log-last-index-tells answer = reads placed.Refused placedLeaves answer _ (refuses (omega arith)) (answers (λ n e. cc))
 
   pub log-last-term-tells : (answer : List ℕ) → Tells looked.Refused (lastTerm (logFrom log) settled pending) (answer ∷ []) (lastTermLeaves log settled pending answer)
   unfolding lastTerm
-  log-last-term-tells answer = behind _ _ (behind _ _ (both-ends (Answered looked.Refused lookedLeaves answer) (broken (logFrom log) settled pending) (refuses (omega arith)) (answers (λ n e. cc))))
+  log-last-term-tells answer = reads looked.Refused lookedLeaves answer _ (refuses (omega arith)) (answers (λ n e. cc))
 
   pub log-commit-info-tells : (answer : List ℕ) → Tells info.Refused (commitInfo (logFrom log) settled pending) (answer ∷ []) (commitInfoLeaves log settled pending answer)
   unfolding commitInfo
-  log-commit-info-tells answer = behind _ _ (behind _ _ (both-ends (Answered info.Refused infoLeaves answer) (broken (logFrom log) settled pending) (refuses (omega arith)) (answers (λ n e. cc))))
+  log-commit-info-tells answer = reads info.Refused infoLeaves answer _ (refuses (omega arith)) (answers (λ n e. cc))
 
   pub log-is-up-to-date-tells : (i t : ℕ) (answer : List ℕ) → Tells yes-or-no.Refused (isUpToDate (logFrom log) settled pending i t) (answer ∷ []) (isUpToDateLeaves log settled pending i t answer)
   unfolding isUpToDate
-  log-is-up-to-date-tells i t answer = behind _ _ (behind _ _ (both-ends (Answered yes-or-no.Refused yesOrNoLeaves answer) (broken (logFrom log) settled pending) (refuses (omega arith)) (answers (λ n e. cc))))
+  log-is-up-to-date-tells i t answer = reads yes-or-no.Refused yesOrNoLeaves answer _ (refuses (omega arith)) (answers (λ n e. cc))
 
   pub log-find-conflict-by-term-tells : (i t : ℕ) (answer : List ℕ) → Tells byterm.Refused (findConflictByTerm (logFrom log) settled pending i t) (answer ∷ []) (findConflictByTermLeaves log settled pending i t answer)
   unfolding findConflictByTerm byTermIn
-  log-find-conflict-by-term-tells i t answer =
-      behind _ _ (behind _ _
-      (both-ends (Answered byterm.Refused byTermLeaves answer) (broken (logFrom log) settled pending) (refuses (omega arith))
-      (both-ends (Answered byterm.Refused byTermLeaves answer) (ltb (lastOf (logFrom log)) i) (answers (λ n e. cc)) (answers (λ n e. cc)))))
+  log-find-conflict-by-term-tells i t answer = reads byterm.Refused byTermLeaves answer _ (refuses (omega arith)) (both-ends (Answered byterm.Refused byTermLeaves answer) (ltb (lastOf (logFrom log)) i) (answers (λ n e. cc)) (answers (λ n e. cc)))
 
 module _ (log settled pending : List ℕ) (idx term commit : ℕ) (run answer : List ℕ) where
   -- An answer of `maybe_append`, and the pending store after it.
@@ -183,10 +178,13 @@ module _ (log settled pending run answer : List ℕ) where
       (both-ends Extends (overfull (extendedLog (logFrom log) (firstOf run) (runCount run)) pending) (refuses (omega arith))
       (both-ends Extends (startsPersisted (logFrom log) (firstOf run)) (refuses (omega arith)) (answers (λ n e. cc)))))))))))
 
--- An answer yes or no, and the state after it.
+-- An answer yes or no, and the state after it; and that of a call on a log: 1 where it is broken, else a yes or a no.
 module _ (log answer : List ℕ) where
   abbrev Decides : Decided → Type 0
   Decides said = Tells decided.Refused said (log ∷ answer ∷ []) (decidedLeaves said log answer)
+
+  decides : (settled pending : List ℕ) (may : Bool) (after : Log) → Decides (cond (broken (logFrom log) settled pending) (decided.Refused brokenState) (cond may (decided.Yes after) decided.No))
+  decides settled pending may after = both-ends Decides (broken (logFrom log) settled pending) (refuses (omega arith)) (both-ends Decides may (answers (λ n e. cc)) (answers (λ n e. cc)))
 
 module _ (log settled pending : List ℕ) where
   pub log-commit-to-tells : (i : ℕ) → Tells changed.Refused (commitTo (logFrom log) settled pending i) (log ∷ []) (commitToLeaves log settled pending i)
@@ -199,7 +197,7 @@ module _ (log settled pending : List ℕ) where
 
   pub log-maybe-commit-tells : (i t : ℕ) (answer : List ℕ) → Tells decided.Refused (maybeCommit (logFrom log) settled pending i t) (log ∷ answer ∷ []) (maybeCommitLeaves log settled pending i t answer)
   unfolding maybeCommit
-  log-maybe-commit-tells i t answer = behind _ _ (behind _ _ (both-ends (Decides log answer) (broken (logFrom log) settled pending) (refuses (omega arith)) (both-ends (Decides log answer) (mayCommit (logFrom log) settled pending i t) (answers (λ n e. cc)) (answers (λ n e. cc)))))
+  log-maybe-commit-tells i t answer = behind _ _ (behind _ _ (decides log answer settled pending (mayCommit (logFrom log) settled pending i t) _))
 
   pub log-applied-to-tells : (i : ℕ) → Tells changed.Refused (appliedTo (logFrom log) settled pending i) (log ∷ []) (appliedToLeaves log settled pending i)
   unfolding appliedTo
@@ -211,7 +209,7 @@ module _ (log settled pending : List ℕ) where
 
   pub log-maybe-persist-tells : (i t : ℕ) (answer : List ℕ) → Tells decided.Refused (maybePersist (logFrom log) settled pending i t) (log ∷ answer ∷ []) (maybePersistLeaves log settled pending i t answer)
   unfolding maybePersist
-  log-maybe-persist-tells i t answer = behind _ _ (behind _ _ (both-ends (Decides log answer) (broken (logFrom log) settled pending) (refuses (omega arith)) (both-ends (Decides log answer) (mayPersist (logFrom log) settled i t) (answers (λ n e. cc)) (answers (λ n e. cc)))))
+  log-maybe-persist-tells i t answer = behind _ _ (behind _ _ (decides log answer settled pending (mayPersist (logFrom log) settled i t) _))
 
   -- An answer without values, and the settled store after it.
   abbrev Settles : Changed → Type 0
@@ -225,72 +223,77 @@ module _ (log settled pending : List ℕ) where
       (both-ends Settles (settledOverfull (logFrom log) settled) (refuses (omega arith))
       (both-ends Settles (not (isLast (logFrom log) settled pending i t)) (refuses (omega arith)) (answers (λ n e. cc)))))
 
+  part-tells : (answer : List ℕ) (said : Bounds) → NamesHeld said (logFrom log) settled pending → Tells bounds.Refused said (answer ∷ []) (reading log logLength partLength answer (boundsLeaves said (logFrom log) answer))
+  part-tells answer said held = behind _ _ (behind _ _ (bounds-tells answer said (logFrom log) settled pending held))
+
   pub log-slice-tells : (low high : ℕ) (answer : List ℕ) → Tells bounds.Refused (sliceBounds (logFrom log) settled pending low high) (answer ∷ []) (sliceLeaves log settled pending low high answer)
-  log-slice-tells low high answer = behind _ _ (behind _ _ (bounds-tells answer _ _ settled pending (slice-sound (logFrom log) settled pending low high)))
+  log-slice-tells low high answer = part-tells answer _ (slice-sound (logFrom log) settled pending low high)
 
   pub log-entries-tells : (i : ℕ) (answer : List ℕ) → Tells bounds.Refused (entriesBounds (logFrom log) settled pending i) (answer ∷ []) (entriesLeaves log settled pending i answer)
-  log-entries-tells i answer = behind _ _ (behind _ _ (bounds-tells answer _ _ settled pending (entries-sound (logFrom log) settled pending i)))
+  log-entries-tells i answer = part-tells answer _ (entries-sound (logFrom log) settled pending i)
 
   pub log-next-entries-since-tells : (s : ℕ) (answer : List ℕ) → Tells bounds.Refused (nextEntriesBoundsSince (logFrom log) settled pending s) (answer ∷ []) (nextEntriesSinceLeaves log settled pending s answer)
-  log-next-entries-since-tells s answer = behind _ _ (behind _ _ (bounds-tells answer _ _ settled pending (next-sound (logFrom log) settled pending s)))
+  log-next-entries-since-tells s answer = part-tells answer _ (next-sound (logFrom log) settled pending s)
 
   pub log-has-next-entries-since-tells : (s : ℕ) (answer : List ℕ) → Tells yes-or-no.Refused (hasNextEntriesSince (logFrom log) settled pending s) (answer ∷ []) (hasNextEntriesSinceLeaves log settled pending s answer)
   unfolding hasNextEntriesSince
-  log-has-next-entries-since-tells s answer = behind _ _ (behind _ _ (both-ends (Answered yes-or-no.Refused yesOrNoLeaves answer) (broken (logFrom log) settled pending) (refuses (omega arith)) (answers (λ n e. cc))))
+  log-has-next-entries-since-tells s answer = reads log settled pending yes-or-no.Refused yesOrNoLeaves answer _ (refuses (omega arith)) (answers (λ n e. cc))
 
 -- ---- The quorums, and the leader's step
 
 -- No check of sets and rows refuses by 0.
-voters-numbered : (v : Voters) → Numbered (votersCheck v)
-voters-numbered v = fine-numbered (leb (v .count) voterLimit && distinct (votersOf v)) (omega arith)
+voters-numbered : (v : Voters) → Refuses Nonzero (votersCheck v)
+voters-numbered v = rule-refuses Nonzero (fewDistinct (v .count) voterLimit (votersOf v)) (omega arith)
 
-rows-numbered : (peers : List Peer) → Numbered (rowsCheck peers)
-rows-numbered peers = fine-numbered (leb (length peers) rowLimit && distinct (map idOf peers)) (omega arith)
+rows-numbered : (peers : List Peer) → Refuses Nonzero (rowsCheck peers)
+rows-numbered peers = rule-refuses Nonzero (fewDistinct (length peers) rowLimit (map idOf peers)) (omega arith)
 
-config-numbered : (c : JointConfig) → Numbered (configCheck c)
-config-numbered c = both-numbered _ (voters-numbered (c .incoming)) (voters-numbered (c .outgoing))
+config-numbered : (c : JointConfig) → Refuses Nonzero (configCheck c)
+config-numbered c = both-refuse Nonzero _ (voters-numbered (c .incoming)) (voters-numbered (c .outgoing))
 
-set-numbered : (v : Voters) (peers : List Peer) → Numbered (bothChecks (votersCheck v) (rowsCheck peers))
-set-numbered v peers = both-numbered _ (voters-numbered v) (rows-numbered peers)
+set-numbered : (v : Voters) (peers : List Peer) → Refuses Nonzero (bothChecks (votersCheck v) (rowsCheck peers))
+set-numbered v peers = both-refuse Nonzero _ (voters-numbered v) (rows-numbered peers)
 
-sets-numbered : (c : JointConfig) (peers : List Peer) → Numbered (bothChecks (configCheck c) (rowsCheck peers))
-sets-numbered c peers = both-numbered _ (config-numbered c) (rows-numbered peers)
+sets-numbered : (c : JointConfig) (peers : List Peer) → Refuses Nonzero (bothChecks (configCheck c) (rowsCheck peers))
+sets-numbered c peers = both-refuse Nonzero _ (config-numbered c) (rows-numbered peers)
 
 module _ (rows answer : List ℕ) where
   pub majority-committed-index-tells : (voters : List ℕ) → Tells committed.Refused (committedIndex (setOf voters) (peersFrom rows)) (answer ∷ []) (majorityIndexLeaves voters rows answer)
   unfolding committedIndex
-  majority-committed-index-tells voters = behind _ _ (by-check (Answered committed.Refused committedLeaves answer) committedUnless _ _ (set-numbered (setOf voters) (peersFrom rows)) (λ m. refuses) (answers (λ n e. cc)))
+  majority-committed-index-tells voters = by-check committed.Refused committedLeaves answer _ _ (set-numbered (setOf voters) (peersFrom rows)) (λ m. refuses) (answers (λ n e. cc))
 
   pub joint-committed-index-tells : (incoming outgoing : List ℕ) → Tells committed.Refused (jointIndex (configFrom incoming outgoing) (peersFrom rows)) (answer ∷ []) (jointIndexLeaves incoming outgoing rows answer)
   unfolding jointIndex
-  joint-committed-index-tells incoming outgoing = behind _ _ (by-check (Answered committed.Refused committedLeaves answer) committedUnless _ _ (sets-numbered (configFrom incoming outgoing) (peersFrom rows)) (λ m. refuses) (answers (λ n e. cc)))
+  joint-committed-index-tells incoming outgoing = by-check committed.Refused committedLeaves answer _ _ (sets-numbered (configFrom incoming outgoing) (peersFrom rows)) (λ m. refuses) (answers (λ n e. cc))
 
   pub majority-vote-result-tells : (voters : List ℕ) → Tells verdict.Refused (voteResult (setOf voters) (peersFrom rows)) (answer ∷ []) (majorityResultLeaves voters rows answer)
   unfolding voteResult
-  majority-vote-result-tells voters = behind _ _ (by-check (Answered verdict.Refused verdictLeaves answer) resultUnless _ _ (set-numbered (setOf voters) (peersFrom rows)) (λ m. refuses) (answers (λ n e. cc)))
+  majority-vote-result-tells voters = by-check verdict.Refused verdictLeaves answer _ _ (set-numbered (setOf voters) (peersFrom rows)) (λ m. refuses) (answers (λ n e. cc))
 
   pub joint-vote-result-tells : (incoming outgoing : List ℕ) → Tells verdict.Refused (jointVerdict (configFrom incoming outgoing) (peersFrom rows)) (answer ∷ []) (jointResultLeaves incoming outgoing rows answer)
   unfolding jointVerdict
-  joint-vote-result-tells incoming outgoing = behind _ _ (by-check (Answered verdict.Refused verdictLeaves answer) resultUnless _ _ (sets-numbered (configFrom incoming outgoing) (peersFrom rows)) (λ m. refuses) (answers (λ n e. cc)))
+  joint-vote-result-tells incoming outgoing = by-check verdict.Refused verdictLeaves answer _ _ (sets-numbered (configFrom incoming outgoing) (peersFrom rows)) (λ m. refuses) (answers (λ n e. cc))
 
 module _ (incoming outgoing answer : List ℕ) where
   pub joint-is-singleton-tells : Tells yes-or-no.Refused (singleton (configFrom incoming outgoing)) (answer ∷ []) (singletonLeaves incoming outgoing answer)
-  joint-is-singleton-tells = behind _ _ (by-check (Answered yes-or-no.Refused yesOrNoLeaves answer) isUnless _ _ (config-numbered (configFrom incoming outgoing)) (λ m. refuses) (answers (λ n e. cc)))
+  joint-is-singleton-tells = by-check yes-or-no.Refused yesOrNoLeaves answer _ _ (config-numbered (configFrom incoming outgoing)) (λ m. refuses) (answers (λ n e. cc))
 
   pub joint-contains-tells : (id : ℕ) → Tells yes-or-no.Refused (containsOf (configFrom incoming outgoing) id) (answer ∷ []) (containsLeaves incoming outgoing id answer)
-  joint-contains-tells id = behind _ _ (by-check (Answered yes-or-no.Refused yesOrNoLeaves answer) isUnless _ _ (config-numbered (configFrom incoming outgoing)) (λ m. refuses) (answers (λ n e. cc)))
+  joint-contains-tells id = by-check yes-or-no.Refused yesOrNoLeaves answer _ _ (config-numbered (configFrom incoming outgoing)) (λ m. refuses) (answers (λ n e. cc))
 
   pub joint-ids-tells : Tells check.Refused (idsAnswer (configFrom incoming outgoing) .check) (answer ∷ []) (jointIdsLeaves incoming outgoing answer)
   joint-ids-tells =
       behind _ _
-      (by-check (λ said. Tells check.Refused (said .check) (answer ∷ []) (idsLeaves said answer)) listedUnless _ (bothIds (configFrom incoming outgoing)) (config-numbered (configFrom incoming outgoing)) (λ m. refuses) (answers (λ n e. cc)))
+      (either-answer (λ n. listed (check.Refused n) []) (λ said. Tells check.Refused (said .check) (answer ∷ []) (idsLeaves said answer)) (configCheck (configFrom incoming outgoing))
+      (λ _. answers (λ n e. cc))
+      (λ m e. refuses (config-numbered (configFrom incoming outgoing) m e)))
 
   -- Of no configuration is `clear` refused.
   pub joint-clear-tells : Tells check.Refused check.Fine (answer ∷ []) (clearLeaves incoming outgoing answer)
   joint-clear-tells = behind _ _ (answers (λ n e. cc))
 
 -- The checks write nothing.
-check-tells : (c : Check) → Numbered c → Tells check.Refused c [] (leaves (refusalOf c) [])
+check-tells : (c : Check) → Refuses Nonzero c → Tells check.Refused c [] (leaves (refusalOf c) [])
 check-tells check.Fine g = answers (λ n e. cc)
 check-tells (check.Refused m) g = refuses (g m refl)
 
@@ -308,30 +311,30 @@ module _ (log settled pending : List ℕ) (term : ℕ) (incoming outgoing rows a
   unfolding leaderCommit jointIndex maybeCommit
   leader-maybe-commit-tells =
       behind _ _ (behind _ _
-      (by-check (λ found. Decides log answer (commitFound (logFrom log) settled pending term found)) committedUnless _ _ (sets-numbered (configFrom incoming outgoing) (peersFrom rows))
-      (λ m numbered. both-ends (Decides log answer) (broken (logFrom log) settled pending) (refuses (omega arith)) (refuses numbered))
-      (both-ends (Decides log answer) (broken (logFrom log) settled pending) (refuses (omega arith)) (both-ends (Decides log answer) (mayCommit (logFrom log) settled pending _ term) (answers (λ n e. cc)) (answers (λ n e. cc))))))
+      (either-answer committed.Refused (λ found. Decides log answer (commitFound (logFrom log) settled pending term found)) (bothChecks (configCheck (configFrom incoming outgoing)) (rowsCheck (peersFrom rows)))
+      (λ _. decides log answer settled pending (mayCommit (logFrom log) settled pending _ term) _)
+      (λ m e. both-ends (Decides log answer) (broken (logFrom log) settled pending) (refuses (omega arith)) (refuses (sets-numbered (configFrom incoming outgoing) (peersFrom rows) m e)))))
 
 -- ---- The inflight window
 
 -- No check of a window refuses by 0.
-cap-numbered : (cap n : ℕ) → Numbered (capCheck cap n)
+cap-numbered : (cap n : ℕ) → Refuses Nonzero (capCheck cap n)
 unfolding capCheck
-cap-numbered cap n = fine-numbered (leb cap n) (omega arith)
+cap-numbered cap n = rule-refuses Nonzero (leb cap n) (omega arith)
 
-window-numbered : (w : Inflights) (n : ℕ) → Numbered (windowCheck w n)
+window-numbered : (w : Inflights) (n : ℕ) → Refuses Nonzero (windowCheck w n)
 unfolding windowCheck
-window-numbered w n = fine-numbered (sound w n) (omega arith)
+window-numbered w n = rule-refuses Nonzero (sound w n) (omega arith)
 
-room-numbered : (w : Inflights) → Numbered (roomCheck w)
+room-numbered : (w : Inflights) → Refuses Nonzero (roomCheck w)
 unfolding roomCheck
-room-numbered w = fine-numbered (not (isFull w)) (omega arith)
+room-numbered w = rule-refuses Nonzero (not (isFull w)) (omega arith)
 
 -- What each answer tells.
-changes-tells : (window : List ℕ) (c : Check) (w : Inflights) → Numbered c → Tells window-answer.Refused (windowUnless c w) (window ∷ []) (changes window (windowUnless c w))
-changes-tells window c w g = behind _ _ (by-check (Answered window-answer.Refused windowLeaves window) windowUnless c w g (λ m. refuses) (answers (λ n e. cc)))
+changes-tells : (window : List ℕ) (c : Check) (w : Inflights) → Refuses Nonzero c → Tells window-answer.Refused (windowUnless c w) (window ∷ []) (changes window (windowUnless c w))
+changes-tells window c w g = by-check window-answer.Refused windowLeaves window _ c g (λ m. refuses) (answers (λ n e. cc))
 
-added-tells : (window ring written : List ℕ) (c : Check) (w : Inflights) → Numbered c
+added-tells : (window ring written : List ℕ) (c : Check) (w : Inflights) → Refuses Nonzero c
     → Tells window-answer.Refused (windowUnless c w) (ring ∷ window ∷ []) (withStore (ringUnless c ring written) (windowLeaves (windowUnless c w) window))
 added-tells window ring written check.Fine w g = answers (λ n e. cc)
 added-tells window ring written (check.Refused m) w g = refuses (g m refl)
@@ -346,11 +349,11 @@ module _ (window ring : List ℕ) where
 
   pub inflights-set-cap-tells : (cap : ℕ) → Tells window-answer.Refused (capped w (length ring) cap) (window ∷ []) (setCapLeaves window ring cap)
   unfolding capped setCapCheck
-  inflights-set-cap-tells cap = changes-tells window _ _ (both-numbered _ (window-numbered w (length ring)) (cap-numbered cap (length ring)))
+  inflights-set-cap-tells cap = changes-tells window _ _ (both-refuse Nonzero _ (window-numbered w (length ring)) (cap-numbered cap (length ring)))
 
   pub inflights-add-tells : (inflight : ℕ) → Tells window-answer.Refused (added w (length ring)) (ring ∷ window ∷ []) (addLeaves window ring inflight)
   unfolding added addCheck ringAfter
-  inflights-add-tells inflight = behind _ _ (added-tells window ring _ _ _ (both-numbered _ (window-numbered w (length ring)) (room-numbered w)))
+  inflights-add-tells inflight = behind _ _ (added-tells window ring _ _ _ (both-refuse Nonzero _ (window-numbered w (length ring)) (room-numbered w)))
 
   pub inflights-free-to-tells : (to : ℕ) → Tells window-answer.Refused (freedTo w ring to) (window ∷ []) (freeToLeaves window ring to)
   unfolding freedTo
@@ -370,8 +373,8 @@ module _ (window ring : List ℕ) where
 
   pub inflights-full-tells : (answer : List ℕ) → Tells yes-or-no.Refused (fullness w (length ring)) (answer ∷ []) (fullLeaves window ring answer)
   unfolding fullness
-  inflights-full-tells answer = behind _ _ (behind _ _ (by-check (Answered yes-or-no.Refused yesOrNoLeaves answer) isUnless _ (isFull w) (window-numbered w (length ring)) (λ m. refuses) (answers (λ n e. cc))))
+  inflights-full-tells answer = behind _ _ (by-check yes-or-no.Refused yesOrNoLeaves answer _ _ (window-numbered w (length ring)) (λ m. refuses) (answers (λ n e. cc)))
 
   pub inflights-count-tells : (answer : List ℕ) → Tells count-is.Refused (counted w (length ring)) (answer ∷ []) (countLeaves window ring answer)
   unfolding counted
-  inflights-count-tells answer = behind _ _ (behind _ _ (by-check (Answered count-is.Refused countedLeaves answer) countUnless _ _ (window-numbered w (length ring)) (λ m. refuses) (answers (λ n e. cc))))
+  inflights-count-tells answer = behind _ _ (by-check count-is.Refused countedLeaves answer _ _ (window-numbered w (length ring)) (λ m. refuses) (answers (λ n e. cc)))

@@ -1,17 +1,16 @@
 -- Rows in words, one after the other: the row at a place, the ids from there on, and what a question reads of the row of an id.
-use Prim.Native.Nat.{ℕ, _+_, _/_, _≤_, _<_}
+use Prim.Native.Nat.{ℕ, zero, suc, _+_, _*_, _/_, _≤_, _<_}
 use mathlib.Core.Path.{_≡_, refl, sym, ap, _∙_}
 use mathlib.Core.List.{List, [], _∷_, map}
 use native.Mathlib.Omega.{arith}
 use native.Mathlib.Nat.{add-zero}
-use lib.ListN.{length, getD, drop, length-drop}
+use native.Mathlib.Numerals.{add-one}
+use lib.ListN.{length, getD, drop, length-drop, length-map, List·getD-eq-default}
 use lib.Seq.{getD-drop, drop-drop}
-use borrow.Author.Tests.{eq-eqb, ne-eqb}
 use Rattle.quorum.specs.Ids.{position}
-use Rattle.quorum.specs.Rows.{nobody, idOf, rowOf, valueFor}
+use Rattle.quorum.specs.Rows.{nobody, idOf, valueFor}
 use Rattle.quorum.specs.declared.rows.Peer.{Peer}
 use Rattle.quorum.specs.declared.rows.Question.{Question}
-use Rattle.quorum.proofs.IdLaws.{row-cons}
 use Rattle.quorum.proofs.Gathered.{nothing-read}
 use Rattle.exports.specs.Rows.{rowLength, peerFrom, peersFrom, rowIds, readOf}
 
@@ -43,6 +42,9 @@ rows-count (a ∷ b ∷ []) = refl
 rows-count (a ∷ b ∷ c ∷ []) = refl
 rows-count (a ∷ b ∷ c ∷ d ∷ words) = let rest = rows-count words in omega arith
 
+pub ids-count : (words : List ℕ) → length (rowIds words) ≡ length words / rowLength
+ids-count words = length-map (peersFrom words) idOf ∙ rows-count words
+
 -- The row whose words begin at a place, by its words.
 pub row-at : (words : List ℕ) (at : ℕ) → at + rowLength ≤ length words
     → peersFrom (drop at words) ≡ peerFrom (getD words at 0) (getD words (at + 1) 0) (getD words (at + 2) 0) (getD words (at + 3) 0) ∷ peersFrom (drop (at + rowLength) words)
@@ -54,27 +56,30 @@ row-at words at h =
 pub ids-next : (words : List ℕ) (at : ℕ) → at + rowLength ≤ length words → rowIds (drop at words) ≡ getD words at 0 ∷ rowIds (drop (at + rowLength) words)
 ids-next words at h = ap (map idOf) (row-at words at h)
 
-module _ (words : List ℕ) (at : ℕ) (short : length words < at + rowLength) where
-  pub rows-end : peersFrom (drop at words) ≡ []
-  rows-end = let fewer : length (drop at words) < rowLength = simp length-drop (omega arith) in no-row (drop at words) fewer
+pub ids-end : (words : List ℕ) (at : ℕ) → length words < at + rowLength → rowIds (drop at words) ≡ []
+ids-end words at short = let fewer : length (drop at words) < rowLength = simp length-drop (omega arith) in ap (map idOf) (no-row (drop at words) fewer)
 
-  pub ids-end : rowIds (drop at words) ≡ []
-  ids-end = ap (map idOf) rows-end
+-- The rows from the k-th on are those of the words from its first on.
+rows-from : (words : List ℕ) (k : ℕ) → k * rowLength ≤ length words → peersFrom (drop (k * rowLength) words) ≡ drop k (peersFrom words)
+rows-from words zero h = refl
+rows-from words (suc k) h =
+    let row : suc k * rowLength ≡ k * rowLength + rowLength = omega arith in
+    ap (λ (at : ℕ). peersFrom (drop at words)) row
+    ∙ ap (drop 1) (sym (row-at words (k * rowLength) (omega arith)) ∙ rows-from words k (omega arith))
+    ∙ drop-drop 1 k (peersFrom words)
+    ∙ ap (λ (n : ℕ). drop n (peersFrom words)) (add-one k)
 
--- What a question reads of the row of an id, from a place on.
-module _ (q : Question) (words : List ℕ) (id at : ℕ) where
-  module _ (h : at + rowLength ≤ length words) where
-    abbrev there : Peer
-    there = peerFrom (getD words at 0) (getD words (at + 1) 0) (getD words (at + 2) 0) (getD words (at + 3) 0)
+-- What a question reads of the row of an id, by where its words begin; 0 where no whole row is left there.
+module _ (q : Question) (words : List ℕ) (id at : ℕ) (begins : at ≡ position id (rowIds words) * rowLength) where
+  pub read-there : at + rowLength ≤ length words → (p : Peer) (others : List Peer) → peersFrom (drop at words) ≡ p ∷ others → valueFor q p ≡ readOf q words id
+  read-there h p others e =
+      let k = position id (rowIds words) in
+      let inside : k * rowLength ≤ length words = omega arith in
+      let first : getD (drop k (peersFrom words)) 0 nobody ≡ getD (peersFrom words) k nobody = simp (getD-drop, add-zero) in
+      ap (λ (rows : List Peer). valueFor q (getD rows 0 nobody)) (sym e ∙ ap (λ (n : ℕ). peersFrom (drop n words)) begins ∙ rows-from words k inside)
+      ∙ ap (valueFor q) first
 
-    pub read-here : getD words at 0 ≡ id → (p : Peer) (others : List Peer) → peersFrom (drop at words) ≡ p ∷ others → valueFor q p ≡ readOf q (drop at words) id
-    read-here e p others f =
-        let same : p ≡ there = ap (λ (rows : List Peer). getD rows 0 nobody) (sym f ∙ row-at words at h) in
-        ap (valueFor q) (same ∙ sym (row-cons there (peersFrom (drop (at + rowLength) words)) id ∙ rw (eq-eqb (getD words at 0) id e))) ∙ ap (λ (rows : List Peer). valueFor q (rowOf rows id)) (sym (row-at words at h))
-
-    pub read-further : (getD words at 0 ≡ id → ⊥) → readOf q (drop at words) id ≡ readOf q (drop (at + rowLength) words) id
-    read-further e = ap (λ (rows : List Peer). valueFor q (rowOf rows id)) (row-at words at h) ∙ ap (valueFor q) (row-cons there (peersFrom (drop (at + rowLength) words)) id ∙ rw (ne-eqb (getD words at 0) id e))
-
-  pub read-nowhere : length words < at + rowLength → readOf q (drop at words) id ≡ 0
-  unfolding position
-  read-nowhere h = ap (λ (rows : List Peer). valueFor q (rowOf rows id)) (rows-end words at h) ∙ nothing-read q
+  pub read-nowhere : length words < at + rowLength → readOf q words id ≡ 0
+  read-nowhere h =
+      let beyond : length (peersFrom words) ≤ position id (rowIds words) = omega (arith, rows-count words) in
+      ap (valueFor q) (List·getD-eq-default (peersFrom words) nobody beyond) ∙ nothing-read q

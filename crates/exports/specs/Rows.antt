@@ -1,9 +1,11 @@
 -- Voters and peer rows as words. A reader must know: the words of a slice of voters are their ids, and four words of a slice of rows are a row.
 -- Nothing is judged here: too many or repeated ids (12) are refused by each question of crate quorum, by the set and the rows that the words say.
-use Prim.Native.Nat.{ℕ}
+use Prim.Native.Nat.{ℕ, _*_, _/_}
+use mathlib.Core.Path.{_≡_}
 use mathlib.Core.Bool.{cond}
 use mathlib.Core.List.{List, [], _∷_, map}
 use lib.Dec.{eqb}
+use lib.ListN.{length}
 use Rattle.units.specs.Units.{indexOf}
 use Rattle.quorum.specs.Rows.{idOf, rowOf, valueFor}
 use Rattle.quorum.specs.Voters.{setOf}
@@ -39,6 +41,14 @@ peersFrom (id ∷ []) = []
 peersFrom (id ∷ known ∷ []) = []
 peersFrom (id ∷ known ∷ index ∷ []) = []
 peersFrom (id ∷ known ∷ index ∷ said ∷ words) = peerFrom id known index said ∷ peersFrom words
+
+-- Where the words of the last row end. For the rows that are "looked up by id".
+abbrev pub rowsEnd : List ℕ → ℕ
+rowsEnd words = length words / rowLength * rowLength
+
+-- A place between rows: the words before it are whole rows. For the walk that looks a row up.
+abbrev pub BetweenRows : ℕ → Type 0
+BetweenRows at = at ≡ at / rowLength * rowLength
 
 -- The ids of the rows. For refusal 12: "a repeated row id".
 abbrev pub rowIds : List ℕ → List ℕ

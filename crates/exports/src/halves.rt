@@ -19,41 +19,51 @@ use units::Index;
 use units::refusal::BROKEN_SET;
 ghost use mathlib.Core.Path.{_≡_};
 ghost use mathlib.Core.List.{map};
-ghost use Prim.Native.Nat.{_≤_};
-ghost use lib.ListN.{length, take};
+ghost use Prim.Native.Nat.{_+_, _*_, _≤_};
+ghost use lib.ListN.{length, take, drop};
 ghost use Rattle.quorum.specs.Limits.{voterLimit};
-ghost use Rattle.quorum.specs.Ids.{has, distinct as distinctOf};
+ghost use Rattle.quorum.specs.Ids.{position, distinct as distinctOf};
 ghost use Rattle.quorum.specs.Rows.{rowsCheck};
 ghost use Rattle.quorum.specs.Voters.{setOf};
 ghost use Rattle.quorum.specs.Half.{halfIndex, numbersResult};
 ghost use Rattle.quorum.specs.Majority.{committedIndex, voteResult};
 ghost use Rattle.quorum.specs.Joint.{jointIndex, jointVerdict};
 ghost use Rattle.quorum.specs.declared.rows.Question.the-variants as question;
-ghost use Rattle.exports.specs.Rows.{rowIds, peersFrom, configFrom, readOf};
+ghost use Rattle.exports.specs.Rows.{rowLength, peersFrom, rowsEnd, BetweenRows, rowIds, readOf, configFrom};
 
-// Whether a row has `id`.
-fn stands(words: &[u64], id: u64) -> bool
-    ensures { λ r. ⌜ r ≡ has id (rowIds (now (words .entry))) ⌝ }
+// Where the words of the last row end.
+fn rows_end(words: &[u64]) -> usize
+    ensures { λ r. ⌜ r ≡ rowsEnd (now (words .entry)) ⌝ }
 {
-    let mut at = 0;
-    while at + ROW <= words.len() {
+    words.len() / ROW * ROW
+}
+
+// Where the words of the row of `id` begin, among the rows from `from` on; the end where none has it.
+fn place(words: &[u64], from: usize, id: u64) -> usize
+    requires { ⌜ BetweenRows from × (from ≤ rowsEnd (now words)) ⌝ }
+    ensures { λ r. ⌜ r ≡ from + position id (rowIds (drop from (now (words .entry)))) * rowLength ⌝ }
+{
+    let end = rows_end(words);
+    let mut at = from;
+    while at < end {
         if words[at] == id {
-            return true;
+            return at;
         }
         at += ROW;
     }
-    false
+    end
 }
 
 // Whether no id stands in two rows.
 fn distinct(words: &[u64]) -> bool
     ensures { λ r. ⌜ r ≡ distinctOf (rowIds (now (words .entry))) ⌝ }
 {
+    let end = rows_end(words);
     let mut at = 0;
-    while at + ROW <= words.len() {
+    while at < end {
         let id = words[at];
         at += ROW;
-        if stands(&words[at..], id) {
+        if place(words, at, id) < end {
             return false;
         }
     }
@@ -77,13 +87,9 @@ pub fn rows_checked(words: &[u64]) -> Check
 fn found(words: &[u64], id: u64, question: Question) -> u64
     ensures { λ r. ⌜ r ≡ readOf question (now (words .entry)) id ⌝ }
 {
-    let end = words.len() / ROW * ROW;
-    let mut at = 0;
-    while at < end {
-        if words[at] == id {
-            return value(row(words, at), question);
-        }
-        at += ROW;
+    let at = place(words, 0, id);
+    if at < rows_end(words) {
+        return value(row(words, at), question);
     }
     0
 }
