@@ -14,7 +14,7 @@ use Rattle.quorum.specs.Voters.{votersOf, votersCheck, setOf}
 use Rattle.quorum.specs.Votes.{resultOf, jointResult}
 use Rattle.quorum.specs.Half.{halfIndex, numbersResult, joined}
 use Rattle.quorum.specs.Majority.{indexUnless, resultUnless, acksOf, votesOf, committedIndex, voteResult}
-use Rattle.quorum.specs.Joint.{configCheck, jointIndex, jointVerdict}
+use Rattle.quorum.specs.Joint.{configCheck, jointCommittedIndex, jointVoteResult}
 use Rattle.quorum.specs.declared.Committed.the-variants as committed
 use Rattle.quorum.specs.declared.Verdict.the-variants as verdict
 use Rattle.quorum.specs.declared.VoteResult.{VoteResult}
@@ -87,11 +87,11 @@ module _ (incoming outgoing rows : List ℕ) {told : Check} (made : told ≡ set
   outgoing-few = outgoing-within (configFrom incoming outgoing) config-fine
 
   pub sets-index : (h i o : Half) → h ≡ joined i o → i ≡ halfIndex (saidTo rows question.Index incoming) → o ≡ halfIndex (saidTo rows question.Index outgoing)
-      → committed.At (indexOf (h .index)) (h .free) ≡ jointIndex (configFrom incoming outgoing) (peersFrom rows)
-  unfolding jointIndex
+      → committed.At (indexOf (h .index)) (h .free) ≡ jointCommittedIndex (configFrom incoming outgoing) (peersFrom rows)
+  unfolding jointCommittedIndex
   sets-index h i o e f g = index-at _ _ h both-passed (e ∙ ap₂ joined (f ∙ acks-read rows incoming incoming-few) (g ∙ acks-read rows outgoing outgoing-few))
 
   pub sets-result : (r i o : VoteResult) → r ≡ jointResult i o → i ≡ numbersResult (saidTo rows question.Vote incoming) → o ≡ numbersResult (saidTo rows question.Vote outgoing)
-      → verdict.Stands r ≡ jointVerdict (configFrom incoming outgoing) (peersFrom rows)
-  unfolding jointVerdict
+      → verdict.Stands r ≡ jointVoteResult (configFrom incoming outgoing) (peersFrom rows)
+  unfolding jointVoteResult
   sets-result r i o e f g = result-stands _ _ r both-passed (e ∙ ap₂ jointResult (f ∙ votes-read rows incoming incoming-few) (g ∙ votes-read rows outgoing outgoing-few))

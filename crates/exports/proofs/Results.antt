@@ -44,7 +44,7 @@ use Rattle.quorum.specs.Ids.{fewDistinct}
 use Rattle.quorum.specs.Rows.{idOf, rowsCheck}
 use Rattle.quorum.specs.Voters.{votersOf, votersCheck, setOf}
 use Rattle.quorum.specs.Majority.{committedIndex, voteResult}
-use Rattle.quorum.specs.Joint.{configCheck, listed, jointIndex, jointVerdict, singleton, containsOf, idsAnswer}
+use Rattle.quorum.specs.Joint.{configCheck, listed, jointCommittedIndex, jointVoteResult, isSingleton, containsOf, jointIds}
 use Rattle.quorum.specs.declared.Committed.the-variants as committed
 use Rattle.quorum.specs.declared.Verdict.the-variants as verdict
 use Rattle.quorum.specs.declared.joint.JointConfig.{JointConfig}
@@ -60,7 +60,7 @@ use Rattle.exports.specs.Words.{logLength, partLength, logFrom, Outcome,
 use Rattle.exports.specs.LogCalls.{appendedLeaves, extendedLeaves, changedLeaves, decidedLeaves, newLogLeaves, maybeAppendLeaves, appendLeaves, commitToLeaves, maybeCommitLeaves, appliedToLeaves, maybePersistLeaves, stableEntriesLeaves}
 use Rattle.exports.specs.Reads.{lookedLeaves, placedLeaves, infoLeaves, byTermLeaves, boundsLeaves, termLeaves, firstIndexLeaves, lastIndexLeaves, lastTermLeaves, commitInfoLeaves, isUpToDateLeaves, findConflictByTermLeaves, sliceLeaves, entriesLeaves, nextEntriesSinceLeaves, hasNextEntriesSinceLeaves, NamesHeld}
 use Rattle.exports.specs.Rows.{peersFrom, configFrom}
-use Rattle.exports.specs.QuorumCalls.{committedLeaves, verdictLeaves, idsLeaves, majorityIndexLeaves, majorityResultLeaves, jointIndexLeaves, jointResultLeaves, singletonLeaves, containsLeaves, jointIdsLeaves, clearLeaves, votersRefusal, jointRefusal, rowsRefusal, leaderCommitLeaves}
+use Rattle.exports.specs.QuorumCalls.{committedLeaves, verdictLeaves, idsLeaves, majorityCommittedIndexLeaves, majorityVoteResultLeaves, jointCommittedIndexLeaves, jointVoteResultLeaves, isSingletonLeaves, containsLeaves, jointIdsLeaves, clearLeaves, votersRefusal, jointRefusal, rowsRefusal, leaderCommitLeaves}
 use Rattle.exports.specs.WindowCalls.{windowFrom, windowLeaves, countedLeaves, changes, newWindowLeaves, setCapLeaves, addLeaves, freeToLeaves, freeFirstOneLeaves, resetLeaves, maybeFreeBufferLeaves, fullLeaves, countLeaves}
 use Rattle.exports.specs.Results.{Tells}
 use Rattle.exports.proofs.Lengths.{by-length}
@@ -258,30 +258,30 @@ sets-numbered : (c : JointConfig) (peers : List Peer) → Refuses Nonzero (bothC
 sets-numbered c peers = both-refuse Nonzero _ (config-numbered c) (rows-numbered peers)
 
 module _ (rows answer : List ℕ) where
-  pub majority-committed-index-tells : (voters : List ℕ) → Tells committed.Refused (committedIndex (setOf voters) (peersFrom rows)) (answer ∷ []) (majorityIndexLeaves voters rows answer)
+  pub majority-committed-index-tells : (voters : List ℕ) → Tells committed.Refused (committedIndex (setOf voters) (peersFrom rows)) (answer ∷ []) (majorityCommittedIndexLeaves voters rows answer)
   unfolding committedIndex
   majority-committed-index-tells voters = by-check committed.Refused committedLeaves answer _ _ (set-numbered (setOf voters) (peersFrom rows)) (λ m. refuses) (answers (λ n e. cc))
 
-  pub joint-committed-index-tells : (incoming outgoing : List ℕ) → Tells committed.Refused (jointIndex (configFrom incoming outgoing) (peersFrom rows)) (answer ∷ []) (jointIndexLeaves incoming outgoing rows answer)
-  unfolding jointIndex
+  pub joint-committed-index-tells : (incoming outgoing : List ℕ) → Tells committed.Refused (jointCommittedIndex (configFrom incoming outgoing) (peersFrom rows)) (answer ∷ []) (jointCommittedIndexLeaves incoming outgoing rows answer)
+  unfolding jointCommittedIndex
   joint-committed-index-tells incoming outgoing = by-check committed.Refused committedLeaves answer _ _ (sets-numbered (configFrom incoming outgoing) (peersFrom rows)) (λ m. refuses) (answers (λ n e. cc))
 
-  pub majority-vote-result-tells : (voters : List ℕ) → Tells verdict.Refused (voteResult (setOf voters) (peersFrom rows)) (answer ∷ []) (majorityResultLeaves voters rows answer)
+  pub majority-vote-result-tells : (voters : List ℕ) → Tells verdict.Refused (voteResult (setOf voters) (peersFrom rows)) (answer ∷ []) (majorityVoteResultLeaves voters rows answer)
   unfolding voteResult
   majority-vote-result-tells voters = by-check verdict.Refused verdictLeaves answer _ _ (set-numbered (setOf voters) (peersFrom rows)) (λ m. refuses) (answers (λ n e. cc))
 
-  pub joint-vote-result-tells : (incoming outgoing : List ℕ) → Tells verdict.Refused (jointVerdict (configFrom incoming outgoing) (peersFrom rows)) (answer ∷ []) (jointResultLeaves incoming outgoing rows answer)
-  unfolding jointVerdict
+  pub joint-vote-result-tells : (incoming outgoing : List ℕ) → Tells verdict.Refused (jointVoteResult (configFrom incoming outgoing) (peersFrom rows)) (answer ∷ []) (jointVoteResultLeaves incoming outgoing rows answer)
+  unfolding jointVoteResult
   joint-vote-result-tells incoming outgoing = by-check verdict.Refused verdictLeaves answer _ _ (sets-numbered (configFrom incoming outgoing) (peersFrom rows)) (λ m. refuses) (answers (λ n e. cc))
 
 module _ (incoming outgoing answer : List ℕ) where
-  pub joint-is-singleton-tells : Tells yes-or-no.Refused (singleton (configFrom incoming outgoing)) (answer ∷ []) (singletonLeaves incoming outgoing answer)
+  pub joint-is-singleton-tells : Tells yes-or-no.Refused (isSingleton (configFrom incoming outgoing)) (answer ∷ []) (isSingletonLeaves incoming outgoing answer)
   joint-is-singleton-tells = by-check yes-or-no.Refused yesOrNoLeaves answer _ _ (config-numbered (configFrom incoming outgoing)) (λ m. refuses) (answers (λ n e. cc))
 
   pub joint-contains-tells : (id : ℕ) → Tells yes-or-no.Refused (containsOf (configFrom incoming outgoing) id) (answer ∷ []) (containsLeaves incoming outgoing id answer)
   joint-contains-tells id = by-check yes-or-no.Refused yesOrNoLeaves answer _ _ (config-numbered (configFrom incoming outgoing)) (λ m. refuses) (answers (λ n e. cc))
 
-  pub joint-ids-tells : Tells check.Refused (idsAnswer (configFrom incoming outgoing) .check) (answer ∷ []) (jointIdsLeaves incoming outgoing answer)
+  pub joint-ids-tells : Tells check.Refused (jointIds (configFrom incoming outgoing) .check) (answer ∷ []) (jointIdsLeaves incoming outgoing answer)
   joint-ids-tells =
       behind _ _
       (either-answer (λ n. listed (check.Refused n) []) (λ said. Tells check.Refused (said .check) (answer ∷ []) (idsLeaves said answer)) (configCheck (configFrom incoming outgoing))
@@ -308,7 +308,7 @@ rows-checked-tells rows = check-tells _ (rows-numbered (peersFrom rows))
 
 module _ (log settled pending : List ℕ) (term : ℕ) (incoming outgoing rows answer : List ℕ) where
   pub leader-maybe-commit-tells : Tells decided.Refused (leaderCommit (logFrom log) settled pending term (configFrom incoming outgoing) (peersFrom rows)) (log ∷ answer ∷ []) (leaderCommitLeaves log settled pending term incoming outgoing rows answer)
-  unfolding leaderCommit jointIndex maybeCommit
+  unfolding leaderCommit jointCommittedIndex maybeCommit
   leader-maybe-commit-tells =
       behind _ _ (behind _ _
       (either-answer committed.Refused (λ found. Decides log answer (commitFound (logFrom log) settled pending term found)) (bothChecks (configCheck (configFrom incoming outgoing)) (rowsCheck (peersFrom rows)))

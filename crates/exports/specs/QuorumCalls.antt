@@ -8,7 +8,7 @@ use Rattle.units.specs.declared.Check.the-variants as check
 use Rattle.quorum.specs.Rows.{rowsCheck}
 use Rattle.quorum.specs.Voters.{setOf, noVoters, votersCheck}
 use Rattle.quorum.specs.Majority.{committedIndex, voteResult}
-use Rattle.quorum.specs.Joint.{oneSet, configCheck, jointIndex, jointVerdict, singleton, containsOf, idsAnswer}
+use Rattle.quorum.specs.Joint.{oneSet, configCheck, jointCommittedIndex, jointVoteResult, isSingleton, containsOf, jointIds}
 use Rattle.quorum.specs.declared.Committed.{Committed}
 use Rattle.quorum.specs.declared.Committed.the-variants as committed
 use Rattle.quorum.specs.declared.Verdict.{Verdict}
@@ -54,28 +54,28 @@ sizesLeaves config values = leaves 0 (put values (config .incoming .count ∷ co
 -- THE PROMISES of the questions: what each leaves of `answer`, here `values`. Of one set:
 module _ (voters rows values : List ℕ) where
   -- `majority_committed_index`: "the quorum-th largest acknowledgement; a missing one counts as 0".
-  abbrev pub majorityIndexLeaves : Outcome
-  majorityIndexLeaves = unlessShort values pairLength (values ∷ []) (committedLeaves (committedIndex (setOf voters) (peersFrom rows)) values)
+  abbrev pub majorityCommittedIndexLeaves : Outcome
+  majorityCommittedIndexLeaves = unlessShort values pairLength (values ∷ []) (committedLeaves (committedIndex (setOf voters) (peersFrom rows)) values)
 
   -- `majority_vote_result`: "an empty set is Won; otherwise Won if yes reaches the quorum, else Pending if yes plus missing reaches it, else Lost."
-  abbrev pub majorityResultLeaves : Outcome
-  majorityResultLeaves = unlessShort values singleLength (values ∷ []) (verdictLeaves (voteResult (setOf voters) (peersFrom rows)) values)
+  abbrev pub majorityVoteResultLeaves : Outcome
+  majorityVoteResultLeaves = unlessShort values singleLength (values ∷ []) (verdictLeaves (voteResult (setOf voters) (peersFrom rows)) values)
 
 -- Of both halves, by the rows:
 module _ (incoming outgoing rows values : List ℕ) where
   -- `joint_committed_index`: "The index is the smaller of the two, the flag is true only if both are."
-  abbrev pub jointIndexLeaves : Outcome
-  jointIndexLeaves = unlessShort values pairLength (values ∷ []) (committedLeaves (jointIndex (configFrom incoming outgoing) (peersFrom rows)) values)
+  abbrev pub jointCommittedIndexLeaves : Outcome
+  jointCommittedIndexLeaves = unlessShort values pairLength (values ∷ []) (committedLeaves (jointCommittedIndex (configFrom incoming outgoing) (peersFrom rows)) values)
 
   -- `joint_vote_result`: "Won if Won in both, Lost if Lost in either, else Pending."
-  abbrev pub jointResultLeaves : Outcome
-  jointResultLeaves = unlessShort values singleLength (values ∷ []) (verdictLeaves (jointVerdict (configFrom incoming outgoing) (peersFrom rows)) values)
+  abbrev pub jointVoteResultLeaves : Outcome
+  jointVoteResultLeaves = unlessShort values singleLength (values ∷ []) (verdictLeaves (jointVoteResult (configFrom incoming outgoing) (peersFrom rows)) values)
 
 -- And of both halves alone:
 module _ (incoming outgoing : List ℕ) where
   -- `joint_is_singleton`, which 01, Joint, names: one incoming voter, and nobody outgoing.
-  abbrev pub singletonLeaves : List ℕ → Outcome
-  singletonLeaves values = unlessShort values singleLength (values ∷ []) (yesOrNoLeaves (singleton (configFrom incoming outgoing)) values)
+  abbrev pub isSingletonLeaves : List ℕ → Outcome
+  isSingletonLeaves values = unlessShort values singleLength (values ∷ []) (yesOrNoLeaves (isSingleton (configFrom incoming outgoing)) values)
 
   -- `joint_contains`, which 01, Joint, names: a voter of either half.
   abbrev pub containsLeaves : ℕ → List ℕ → Outcome
@@ -83,7 +83,7 @@ module _ (incoming outgoing : List ℕ) where
 
   -- `joint_ids`: "the ids of both, each once. We list ids in rising order".
   abbrev pub jointIdsLeaves : List ℕ → Outcome
-  jointIdsLeaves values = unlessShort values idsLength (values ∷ []) (idsLeaves (idsAnswer (configFrom incoming outgoing)) values)
+  jointIdsLeaves values = unlessShort values idsLength (values ∷ []) (idsLeaves (jointIds (configFrom incoming outgoing)) values)
 
   -- `joint_clear`, which 01, Joint, names. What crate quorum promises of `clear` is the same of every configuration, so that it "reads nothing and refuses nothing" (open points).
   abbrev pub clearLeaves : List ℕ → Outcome

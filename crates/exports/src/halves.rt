@@ -27,7 +27,7 @@ ghost use Rattle.quorum.specs.Rows.{rowsCheck};
 ghost use Rattle.quorum.specs.Voters.{setOf};
 ghost use Rattle.quorum.specs.Half.{halfIndex, numbersResult};
 ghost use Rattle.quorum.specs.Majority.{committedIndex, voteResult};
-ghost use Rattle.quorum.specs.Joint.{jointIndex, jointVerdict};
+ghost use Rattle.quorum.specs.Joint.{jointCommittedIndex, jointVoteResult};
 ghost use Rattle.quorum.specs.declared.rows.Question.the-variants as question;
 ghost use Rattle.exports.specs.Rows.{rowLength, peersFrom, rowsEnd, BetweenRows, rowIds, readOf, configFrom};
 
@@ -153,7 +153,7 @@ pub fn majority_verdict(voters: &[u64], rows: &[u64]) -> Verdict
 
 // How far a majority of both halves has acknowledged.
 pub fn joint_index(incoming: &[u64], outgoing: &[u64], rows: &[u64]) -> Committed
-    ensures { λ r. ⌜ r ≡ jointIndex (configFrom (now (incoming .entry)) (now (outgoing .entry))) (peersFrom (now (rows .entry))) ⌝ }
+    ensures { λ r. ⌜ r ≡ jointCommittedIndex (configFrom (now (incoming .entry)) (now (outgoing .entry))) (peersFrom (now (rows .entry))) ⌝ }
 {
     let check = ids_checked(incoming)
         .and(ids_checked(outgoing))
@@ -167,7 +167,7 @@ pub fn joint_index(incoming: &[u64], outgoing: &[u64], rows: &[u64]) -> Committe
 
 // How the vote of both halves stands.
 pub fn joint_verdict(incoming: &[u64], outgoing: &[u64], rows: &[u64]) -> Verdict
-    ensures { λ r. ⌜ r ≡ jointVerdict (configFrom (now (incoming .entry)) (now (outgoing .entry))) (peersFrom (now (rows .entry))) ⌝ }
+    ensures { λ r. ⌜ r ≡ jointVoteResult (configFrom (now (incoming .entry)) (now (outgoing .entry))) (peersFrom (now (rows .entry))) ⌝ }
 {
     let check = ids_checked(incoming)
         .and(ids_checked(outgoing))

@@ -25,7 +25,7 @@ ghost use mathlib.Core.List.{[], _∷_};
 ghost use Prim.Native.Nat.{_≤_};
 ghost use lib.ListN.{length};
 ghost use Rattle.exports.specs.Words.{singleLength, pairLength, idsLength, leaves};
-ghost use Rattle.exports.specs.QuorumCalls.{resultWord, committedLeaves, verdictLeaves, idsLeaves, sizesLeaves, majorityIndexLeaves, majorityResultLeaves, jointIndexLeaves, jointResultLeaves, singletonLeaves, containsLeaves, jointIdsLeaves, clearLeaves, votersRefusal, jointRefusal, rowsRefusal};
+ghost use Rattle.exports.specs.QuorumCalls.{resultWord, committedLeaves, verdictLeaves, idsLeaves, sizesLeaves, majorityCommittedIndexLeaves, majorityVoteResultLeaves, jointCommittedIndexLeaves, jointVoteResultLeaves, isSingletonLeaves, containsLeaves, jointIdsLeaves, clearLeaves, votersRefusal, jointRefusal, rowsRefusal};
 
 fn result_word(result: VoteResult) -> u64
     ensures { λ r. ⌜ r ≡ resultWord result ⌝ }
@@ -91,7 +91,7 @@ fn write_sizes(answer: &mut [u64], config: JointConfig) -> u64
 // How far a majority has acknowledged. Values: the index, and 1 if nobody had a say.
 #[no_mangle]
 pub extern "C" fn majority_committed_index(voters: &[u64], rows: &[u64], answer: &mut [u64]) -> u64
-    ensures { λ r. ⌜ leaves r (now (answer .exit) ∷ []) ≡ majorityIndexLeaves (now (voters .entry)) (now (rows .entry)) (now (answer .entry)) ⌝ }
+    ensures { λ r. ⌜ leaves r (now (answer .exit) ∷ []) ≡ majorityCommittedIndexLeaves (now (voters .entry)) (now (rows .entry)) (now (answer .entry)) ⌝ }
 {
     if answer.len() < PAIR {
         return BROKEN_STATE;
@@ -103,7 +103,7 @@ pub extern "C" fn majority_committed_index(voters: &[u64], rows: &[u64], answer:
 // How the vote stands: 0 pending, 1 lost, 2 won.
 #[no_mangle]
 pub extern "C" fn majority_vote_result(voters: &[u64], rows: &[u64], answer: &mut [u64]) -> u64
-    ensures { λ r. ⌜ leaves r (now (answer .exit) ∷ []) ≡ majorityResultLeaves (now (voters .entry)) (now (rows .entry)) (now (answer .entry)) ⌝ }
+    ensures { λ r. ⌜ leaves r (now (answer .exit) ∷ []) ≡ majorityVoteResultLeaves (now (voters .entry)) (now (rows .entry)) (now (answer .entry)) ⌝ }
 {
     if answer.len() < SINGLE {
         return BROKEN_STATE;
@@ -120,7 +120,7 @@ pub extern "C" fn joint_committed_index(
     rows: &[u64],
     answer: &mut [u64],
 ) -> u64
-    ensures { λ r. ⌜ leaves r (now (answer .exit) ∷ []) ≡ jointIndexLeaves (now (incoming .entry)) (now (outgoing .entry)) (now (rows .entry)) (now (answer .entry)) ⌝ }
+    ensures { λ r. ⌜ leaves r (now (answer .exit) ∷ []) ≡ jointCommittedIndexLeaves (now (incoming .entry)) (now (outgoing .entry)) (now (rows .entry)) (now (answer .entry)) ⌝ }
 {
     if answer.len() < PAIR {
         return BROKEN_STATE;
@@ -137,7 +137,7 @@ pub extern "C" fn joint_vote_result(
     rows: &[u64],
     answer: &mut [u64],
 ) -> u64
-    ensures { λ r. ⌜ leaves r (now (answer .exit) ∷ []) ≡ jointResultLeaves (now (incoming .entry)) (now (outgoing .entry)) (now (rows .entry)) (now (answer .entry)) ⌝ }
+    ensures { λ r. ⌜ leaves r (now (answer .exit) ∷ []) ≡ jointVoteResultLeaves (now (incoming .entry)) (now (outgoing .entry)) (now (rows .entry)) (now (answer .entry)) ⌝ }
 {
     if answer.len() < SINGLE {
         return BROKEN_STATE;
@@ -149,7 +149,7 @@ pub extern "C" fn joint_vote_result(
 // One incoming voter, and nobody outgoing.
 #[no_mangle]
 pub extern "C" fn joint_is_singleton(incoming: &[u64], outgoing: &[u64], answer: &mut [u64]) -> u64
-    ensures { λ r. ⌜ leaves r (now (answer .exit) ∷ []) ≡ singletonLeaves (now (incoming .entry)) (now (outgoing .entry)) (now (answer .entry)) ⌝ }
+    ensures { λ r. ⌜ leaves r (now (answer .exit) ∷ []) ≡ isSingletonLeaves (now (incoming .entry)) (now (outgoing .entry)) (now (answer .entry)) ⌝ }
 {
     if answer.len() < SINGLE {
         return BROKEN_STATE;

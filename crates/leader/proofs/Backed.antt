@@ -14,7 +14,7 @@ use Rattle.units.proofs.Never.{never}
 use Rattle.quorum.specs.Rows.{rowsCheck}
 use Rattle.quorum.specs.Half.{halfIndex, joined}
 use Rattle.quorum.specs.Majority.{indexUnless, acksOf}
-use Rattle.quorum.specs.Joint.{configCheck, jointIndex}
+use Rattle.quorum.specs.Joint.{configCheck, jointCommittedIndex}
 use Rattle.quorum.specs.declared.Committed.{Committed}
 use Rattle.quorum.specs.declared.Committed.the-variants as found
 use Rattle.quorum.specs.declared.half.Half.{Half}
@@ -48,7 +48,7 @@ module _ (l : Log) (settled pending : List ℕ) (term : ℕ) (config : JointConf
   -- THE THEOREM: what it commits, a majority of every nonempty half has acknowledged, and it is of the leader's own term.
   pub commits-by-the-rule : (after : Log) → leaderCommit l settled pending term config peers ≡ decided.Yes after
       → (after ≡ withCommitted l (after .committed .0)) × MayCommit l settled pending term config peers (after .committed .0)
-  unfolding leaderCommit jointIndex maybeCommit
+  unfolding leaderCommit jointCommittedIndex maybeCommit
   commits-by-the-rule after e =
       let n = in-both .index in
       let granted = by-check (bothChecks (configCheck config) (rowsCheck peers)) after e in
@@ -74,7 +74,7 @@ module _ (l : Log) (settled pending : List ℕ) (term : ℕ) (config : JointConf
   -- 1 before 12: the table's order.
   pub refuses-broken : broken l settled pending ≡ true → Refuses brokenState
   unfolding leaderCommit maybeCommit
-  refuses-broken b = by-found (jointIndex config peers)
+  refuses-broken b = by-found (jointCommittedIndex config peers)
     where
       by-found : (c : Committed) → commitFound l settled pending term c ≡ decided.Refused brokenState
       by-found (found.At i free) = simp b
@@ -87,9 +87,9 @@ module _ (l : Log) (settled pending : List ℕ) (term : ℕ) (config : JointConf
   -- and nothing else is refused
   pub refused-by : (n : ℕ) → Refuses n → ((broken l settled pending ≡ true) × (n ≡ brokenState)) ⊎ ((¬ JointWhole config peers) × (n ≡ brokenSet))
   unfolding leaderCommit maybeCommit
-  refused-by n e = by-found (jointIndex config peers) refl e
+  refused-by n e = by-found (jointCommittedIndex config peers) refl e
     where
-      by-found : (c : Committed) → jointIndex config peers ≡ c → commitFound l settled pending term c ≡ decided.Refused n
+      by-found : (c : Committed) → jointCommittedIndex config peers ≡ c → commitFound l settled pending term c ≡ decided.Refused n
           → ((broken l settled pending ≡ true) × (n ≡ brokenState)) ⊎ ((¬ JointWhole config peers) × (n ≡ brokenSet))
       by-found (found.At i free) q h = ⊎-map (λ b. b) (λ a. never (cc (past (mayCommit l settled pending (i .0) term) (λ h. never cc) a .1))) (by-state (broken l settled pending) _ n h)
       by-found (found.Refused m) q h =

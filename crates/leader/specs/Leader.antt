@@ -3,7 +3,7 @@ use Prim.Native.Nat.{ℕ}
 use mathlib.Core.List.{List}
 use mathlib.Core.Bool.{cond}
 use Rattle.units.specs.Refusals.{brokenState}
-use Rattle.quorum.specs.Joint.{jointIndex}
+use Rattle.quorum.specs.Joint.{jointCommittedIndex}
 use Rattle.quorum.specs.declared.Committed.{Committed}
 use Rattle.quorum.specs.declared.Committed.the-variants as found
 use Rattle.quorum.specs.declared.joint.JointConfig.{JointConfig}
@@ -21,4 +21,4 @@ commitFound l settled pending term (found.Refused number) = cond (broken l settl
 
 -- THE PROMISE of `maybe_commit`. 01: "The log part sees the quorum part only through its promises": the index is the promise of `joint::committed_index`, and what is done with it that of the log's `maybe_commit`.
 unfoldable pub leaderCommit : Log → List ℕ → List ℕ → ℕ → JointConfig → List Peer → Decided
-leaderCommit l settled pending term config peers = commitFound l settled pending term (jointIndex config peers)
+leaderCommit l settled pending term config peers = commitFound l settled pending term (jointCommittedIndex config peers)

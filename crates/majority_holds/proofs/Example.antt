@@ -14,7 +14,7 @@ use Rattle.quorum.specs.Ids.{position, has, distinct}
 use Rattle.quorum.specs.Voters.{setOf}
 use Rattle.quorum.specs.Rows.{nobody, ackNumber}
 use Rattle.quorum.specs.Half.{halfIndex}
-use Rattle.quorum.specs.Joint.{oneSet, jointIndex}
+use Rattle.quorum.specs.Joint.{oneSet, jointCommittedIndex}
 use Rattle.quorum.specs.declared.joint.JointConfig.{JointConfig}
 use Rattle.quorum.specs.declared.rows.Peer.{Peer}
 use Rattle.quorum.specs.declared.rows.Ack.the-variants as ack
@@ -52,7 +52,7 @@ peers = at-one 1 ∷ at-one 2 ∷ []
 
 -- What it all computes through.
 unfoldable concrete : Unit {0}
-unfolding at-the-ends setupOk newLog maybeCommit leaderCommit count insert falling kth-largest committed position has distinct halfIndex jointIndex
+unfolding at-the-ends setupOk newLog maybeCommit leaderCommit count insert falling kth-largest committed position has distinct halfIndex jointCommittedIndex
 concrete = tt
 
 only-start : (j : ℕ) → j ≤ 0 → Same (held empty) (whole-list the-list) j

@@ -19,7 +19,7 @@ use Rattle.quorum.specs.Rows.{rowsCheck}
 use Rattle.quorum.specs.Voters.{votersOf, votersCheck}
 use Rattle.quorum.specs.Half.{halfIndex, joined}
 use Rattle.quorum.specs.Majority.{acksOf, indexUnless, committedIndex, matchIndex}
-use Rattle.quorum.specs.Joint.{configCheck, jointIndex}
+use Rattle.quorum.specs.Joint.{configCheck, jointCommittedIndex}
 use Rattle.quorum.specs.declared.Committed.the-variants as found
 use Rattle.quorum.specs.declared.majority.Voters.{Voters}
 use Rattle.quorum.specs.declared.joint.JointConfig.{JointConfig}
@@ -67,8 +67,8 @@ one-is-not (x ∷ xs) ys h = inl (omega arith)
 -- ---- the leader's step
 
 -- Where nobody has a say, the index is one that no log reaches.
-nobody-index : (config : JointConfig) (peers : List Peer) → JointWhole config peers → NoVoters config → jointIndex config peers ≡ found.At (indexOf wordMax) true
-unfolding jointIndex
+nobody-index : (config : JointConfig) (peers : List Peer) → JointWhole config peers → NoVoters config → jointCommittedIndex config peers ≡ found.At (indexOf wordMax) true
+unfolding jointCommittedIndex
 nobody-index config peers whole none = rw (whole, none .0, none .1) (ap (indexUnless check.Fine) joined-nobody)
 
 -- Where it says yes, nothing is wrong with the configuration or the rows, and somebody has a say.
@@ -113,8 +113,8 @@ module _ (xs : List Entry) (sites : ℕ → Follower) (peers : List Peer) (hones
         let fine = both-fine _ _ .0 (both-fine (configCheck config) (rowsCheck peers) .0 whole .0) in
         record { somebody = one-is-not _ _ voters; by-incoming = half-held (config .incoming) n (fine .0) some i; by-outgoing = half-held (config .outgoing) n (fine .1) some o }
 
-    joint-held : jointIndex config peers ≡ found.At (indexOf n) false → HeldByHalves xs sites config n
-    unfolding jointIndex
+    joint-held : jointCommittedIndex config peers ≡ found.At (indexOf n) false → HeldByHalves xs sites config n
+    unfolding jointCommittedIndex
     joint-held e =
         let i = acksOf peers (config .incoming) in
         let o = acksOf peers (config .outgoing) in

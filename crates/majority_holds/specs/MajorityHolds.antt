@@ -13,7 +13,7 @@ use Rattle.rules.specs.Log.{Entry, whole-list, last, Holds, Same, Agree}
 use Rattle.quorum.specs.Ids.{distinct}
 use Rattle.quorum.specs.Voters.{votersOf}
 use Rattle.quorum.specs.Majority.{committedIndex, matchIndex}
-use Rattle.quorum.specs.Joint.{jointIndex}
+use Rattle.quorum.specs.Joint.{jointCommittedIndex}
 use Rattle.quorum.specs.declared.Committed.the-variants as found
 use Rattle.quorum.specs.declared.majority.Voters.{Voters}
 use Rattle.quorum.specs.declared.joint.JointConfig.{JointConfig}
@@ -76,7 +76,7 @@ pub record MayCount (xs : List Entry) (sites : ℕ → Follower) (peers : List P
   pub committed-held : (leader : Follower) (term : ℕ) (config : JointConfig) (after : Log) → leaderCommit (leader .log) (leader .settled) (leader .pending) term config peers ≡ decided.Yes after
       → HeldByHalves xs sites config (after .committed .0)
   -- and so what the quorums answer to whoever asks: of a joint configuration, of one set. Of 0 nothing is said: who has acknowledged nothing counts as 0, and need not hold a thing.
-  pub joint-held : (config : JointConfig) (n : ℕ) → 0 < n → jointIndex config peers ≡ found.At (indexOf n) false → HeldByHalves xs sites config n
+  pub joint-held : (config : JointConfig) (n : ℕ) → 0 < n → jointCommittedIndex config peers ≡ found.At (indexOf n) false → HeldByHalves xs sites config n
   pub set-held : (v : Voters) (n : ℕ) → 0 < n → committedIndex v peers ≡ found.At (indexOf n) false → HeldByMajority xs sites (votersOf v) n
   -- "we couldn't show that every site held the same records": two sites that hold up to n have the same records, wherever both have them
   pub none-differ : (n a b : ℕ) → HoldsUpTo xs (sites a) n → HoldsUpTo xs (sites b) n → (j : ℕ) → j ≤ n → held (sites a) .start ≤ j → held (sites b) .start ≤ j → Same (held (sites a)) (held (sites b)) j

@@ -9,7 +9,7 @@ use Rattle.units.specs.Refusals.{brokenSet}
 use Rattle.quorum.specs.Limits.{rowLimit}
 use Rattle.quorum.specs.Rows.{nobody}
 use Rattle.quorum.specs.Majority.{committedIndex, voteResult}
-use Rattle.quorum.specs.Joint.{jointIndex, jointVerdict}
+use Rattle.quorum.specs.Joint.{jointCommittedIndex, jointVoteResult}
 use Rattle.quorum.specs.declared.Committed.{Committed}
 use Rattle.quorum.specs.declared.Committed.the-variants as answer
 use Rattle.quorum.specs.declared.Verdict.{Verdict}
@@ -24,8 +24,8 @@ abbrev pub noRows : Table
 noRows = record { peers = replicate rowLimit nobody; count = 0 }
 
 -- THE PROMISE of `with`: the row stands behind the others, and one more is counted. In a full table there is no place to `set`, so the rows stay, and the count stops at one over the limit, which says "over 64 rows".
-abbrev pub oneMore : Table → Peer → Table
-oneMore t p = record { peers = set (t .peers) (t .count) p; count = min (t .count) rowLimit + 1 }
+abbrev pub withRow : Table → Peer → Table
+withRow t p = record { peers = set (t .peers) (t .count) p; count = min (t .count) rowLimit + 1 }
 
 -- The rows of a table, as they are lent on: "a lent list of peer rows".
 abbrev pub rowsIn : Table → List Peer
@@ -36,17 +36,17 @@ abbrev pub tooMany : Table → Bool
 tooMany t = ltb rowLimit (t .count)
 
 -- THE PROMISE of `majority::committed_index`: refusal 12, "over 64 rows", else the answer of the lent ones; 01's sentence stands beside `committedIndex` (quorum/specs/Majority.antt).
-abbrev pub tableIndex : Voters → Table → Committed
-tableIndex v t = cond (tooMany t) (answer.Refused brokenSet) (committedIndex v (rowsIn t))
+abbrev pub tableCommittedIndex : Voters → Table → Committed
+tableCommittedIndex v t = cond (tooMany t) (answer.Refused brokenSet) (committedIndex v (rowsIn t))
 
 -- THE PROMISE of `majority::vote_result`: the same by `voteResult`, there.
-abbrev pub tableResult : Voters → Table → Verdict
-tableResult v t = cond (tooMany t) (verdict.Refused brokenSet) (voteResult v (rowsIn t))
+abbrev pub tableVoteResult : Voters → Table → Verdict
+tableVoteResult v t = cond (tooMany t) (verdict.Refused brokenSet) (voteResult v (rowsIn t))
 
--- THE PROMISE of `joint::committed_index`: the same by `jointIndex` (quorum/specs/Joint.antt).
-abbrev pub tableJointIndex : JointConfig → Table → Committed
-tableJointIndex c t = cond (tooMany t) (answer.Refused brokenSet) (jointIndex c (rowsIn t))
+-- THE PROMISE of `joint::committed_index`: the same by `jointCommittedIndex` (quorum/specs/Joint.antt).
+abbrev pub tableJointCommittedIndex : JointConfig → Table → Committed
+tableJointCommittedIndex c t = cond (tooMany t) (answer.Refused brokenSet) (jointCommittedIndex c (rowsIn t))
 
--- THE PROMISE of `joint::vote_result`: the same by `jointVerdict`, there.
-abbrev pub tableJointVerdict : JointConfig → Table → Verdict
-tableJointVerdict c t = cond (tooMany t) (verdict.Refused brokenSet) (jointVerdict c (rowsIn t))
+-- THE PROMISE of `joint::vote_result`: the same by `jointVoteResult`, there.
+abbrev pub tableJointVoteResult : JointConfig → Table → Verdict
+tableJointVoteResult c t = cond (tooMany t) (verdict.Refused brokenSet) (jointVoteResult c (rowsIn t))

@@ -8,7 +8,7 @@ ghost use mathlib.Core.Path.{_≡_};
 ghost use Prim.Native.Nat.{_≤_};
 ghost use Rattle.quorum.specs.Limits.{rowLimit};
 ghost use Rattle.quorum.specs.Majority.{committedIndex, voteResult};
-ghost use Rattle.quorum.specs.Joint.{jointIndex, jointVerdict};
+ghost use Rattle.quorum.specs.Joint.{jointCommittedIndex, jointVoteResult};
 ghost use Rattle.peer_tables.specs.Table.{rowsIn};
 
 pub fn committed_index(voters: Voters, table: Table) -> Committed
@@ -31,7 +31,7 @@ pub fn vote_result(voters: Voters, table: Table) -> Verdict
 
 pub fn joint_committed_index(config: JointConfig, table: Table) -> Committed
     requires { ⌜ table .count ≤ rowLimit ⌝ }
-    ensures { λ r. ⌜ r ≡ jointIndex config (rowsIn table) ⌝ }
+    ensures { λ r. ⌜ r ≡ jointCommittedIndex config (rowsIn table) ⌝ }
 {
     let peers = table.peers;
     let count = table.count;
@@ -40,7 +40,7 @@ pub fn joint_committed_index(config: JointConfig, table: Table) -> Committed
 
 pub fn joint_vote_result(config: JointConfig, table: Table) -> Verdict
     requires { ⌜ table .count ≤ rowLimit ⌝ }
-    ensures { λ r. ⌜ r ≡ jointVerdict config (rowsIn table) ⌝ }
+    ensures { λ r. ⌜ r ≡ jointVoteResult config (rowsIn table) ⌝ }
 {
     let peers = table.peers;
     let count = table.count;

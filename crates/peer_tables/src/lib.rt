@@ -8,7 +8,7 @@ use quorum::rows::Peer;
 use quorum::rows::Rows;
 use quorum::rows::Vote;
 ghost use mathlib.Core.Path.{_≡_};
-ghost use Rattle.peer_tables.specs.Table.{noRows, oneMore};
+ghost use Rattle.peer_tables.specs.Table.{noRows, withRow};
 
 // The rows: the first `count`. A count over the limit says only that there were too many.
 pub struct Table {
@@ -33,7 +33,7 @@ impl Table {
 
     // One row more. Where the table is full, the row is not kept, and the count is one over the limit from then on.
     pub fn with(self, peer: Peer) -> Table
-        ensures { λ r. ⌜ r ≡ oneMore self peer ⌝ }
+        ensures { λ r. ⌜ r ≡ withRow self peer ⌝ }
     {
         let mut peers = self.peers;
         let count = self.count;

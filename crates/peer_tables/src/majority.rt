@@ -6,11 +6,11 @@ use quorum::majority::Voters;
 use quorum::rows::Rows;
 use units::refusal::BROKEN_SET;
 ghost use mathlib.Core.Path.{_≡_};
-ghost use Rattle.peer_tables.specs.Table.{tableIndex, tableResult};
+ghost use Rattle.peer_tables.specs.Table.{tableCommittedIndex, tableVoteResult};
 
 // How far a majority has acknowledged, by the table's rows.
 pub fn committed_index(voters: Voters, table: Table) -> Committed
-    ensures { λ r. ⌜ r ≡ tableIndex voters table ⌝ }
+    ensures { λ r. ⌜ r ≡ tableCommittedIndex voters table ⌝ }
 {
     if Rows::LIMIT < table.count {
         return Committed::Refused(BROKEN_SET);
@@ -20,7 +20,7 @@ pub fn committed_index(voters: Voters, table: Table) -> Committed
 
 // How the vote stands, by the table's rows.
 pub fn vote_result(voters: Voters, table: Table) -> Verdict
-    ensures { λ r. ⌜ r ≡ tableResult voters table ⌝ }
+    ensures { λ r. ⌜ r ≡ tableVoteResult voters table ⌝ }
 {
     if Rows::LIMIT < table.count {
         return Verdict::Refused(BROKEN_SET);

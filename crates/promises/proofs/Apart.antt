@@ -22,8 +22,8 @@ use Rattle.rules.specs.Count.{count}
 use Rattle.rules.specs.Majority.{insert, falling, kth-largest, committed}
 use Rattle.quorum.specs.Ids.{position, has, distinct}
 use Rattle.quorum.specs.Half.{halfIndex}
-use Rattle.quorum.specs.Majority.{committedIndex, voteResult, plainIndex, plainResult}
-use Rattle.quorum.specs.Joint.{jointIndex, jointVerdict, plainJointIndex, plainJointVerdict, rising, bothIds}
+use Rattle.quorum.specs.Majority.{committedIndex, voteResult, plainCommittedIndex, plainVoteResult}
+use Rattle.quorum.specs.Joint.{jointCommittedIndex, jointVoteResult, plainJointCommittedIndex, plainJointVoteResult, rising, bothIds}
 use Rattle.inflights.specs.State.{startFits, deferredFits, sound, windowCheck, capCheck, isFull, roomCheck}
 use Rattle.inflights.specs.Ring.{placeOf, flightsFrom, leading}
 use Rattle.inflights.specs.Calls.{madeWindow, withCap, setCapCheck, capped, fullness, counted, addCheck, added, ringAfter, takeUp, freeTo, freedTo, freedFirst, cleared, rewind, rewound}
@@ -35,7 +35,7 @@ unfolding flatten putRun firstFrom stateOk termAt numbered termsSet outside deci
 log-promises = tt
 
 unfoldable pub quorum-promises : Unit {0}
-unfolding flatten listed count insert falling kth-largest committed position has distinct halfIndex committedIndex voteResult plainIndex plainResult jointIndex jointVerdict plainJointIndex plainJointVerdict rising bothIds
+unfolding flatten listed count insert falling kth-largest committed position has distinct halfIndex committedIndex voteResult plainCommittedIndex plainVoteResult jointCommittedIndex jointVoteResult plainJointCommittedIndex plainJointVoteResult rising bothIds
 quorum-promises = tt
 
 unfoldable pub window-promises : Unit {0}

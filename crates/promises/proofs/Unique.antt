@@ -15,8 +15,8 @@ use Rattle.quorum.specs.Voters.{noVoters, made as madeSet, setOf, votersCheck}
 use Rattle.rules.specs.Majority.{falling}
 use Rattle.quorum.specs.Votes.{jointResult}
 use Rattle.quorum.specs.Half.{halfIndex, joined, numbersResult}
-use Rattle.quorum.specs.Majority.{committedIndex, voteResult, plainIndex, plainResult}
-use Rattle.quorum.specs.Joint.{oneSet, configCheck, singleton, containsOf, idsAnswer, jointIndex, jointVerdict, plainJointIndex, plainJointVerdict}
+use Rattle.quorum.specs.Majority.{committedIndex, voteResult, plainCommittedIndex, plainVoteResult}
+use Rattle.quorum.specs.Joint.{oneSet, configCheck, isSingleton, containsOf, jointIds, jointCommittedIndex, jointVoteResult, plainJointCommittedIndex, plainJointVoteResult}
 use Rattle.quorum.specs.Rows.{gathered, plainCheck, valueFor, ackNumber, voteNumber}
 use Rattle.quorum.specs.declared.Committed.{Committed}
 use Rattle.quorum.specs.declared.VoteResult.{VoteResult}
@@ -28,7 +28,7 @@ use Rattle.quorum.specs.declared.rows.Vote.{Vote}
 use Rattle.quorum.specs.declared.rows.Peer.{Peer}
 use Rattle.quorum.specs.declared.rows.Question.{Question}
 use Rattle.quorum.specs.declared.rows.Rows.{Rows}
-use Rattle.peer_tables.specs.Table.{noRows, oneMore, tableIndex, tableResult, tableJointIndex, tableJointVerdict}
+use Rattle.peer_tables.specs.Table.{noRows, withRow, tableCommittedIndex, tableVoteResult, tableJointCommittedIndex, tableJointVoteResult}
 use Rattle.peer_tables.specs.declared.Table.{Table}
 use Rattle.inflights.specs.Calls.{madeWindow, capped, fullness, added, ringAfter, freedTo, freedFirst, cleared, rewound, counted}
 use Rattle.inflights.specs.InPlace.{stepOf, Stored}
@@ -46,7 +46,7 @@ use Rattle.leader.specs.Leader.{leaderCommit, commitFound}
 use Rattle.exports.specs.Words.{Outcome, leaves}
 use Rattle.exports.specs.LogCalls.{newLogLeaves, maybeAppendLeaves, appendLeaves, commitToLeaves, appliedToLeaves, maybeCommitLeaves, maybePersistLeaves, stableEntriesLeaves}
 use Rattle.exports.specs.Reads.{termLeaves, firstIndexLeaves, lastIndexLeaves, lastTermLeaves, commitInfoLeaves, isUpToDateLeaves, findConflictByTermLeaves, sliceLeaves, entriesLeaves, nextEntriesSinceLeaves, hasNextEntriesSinceLeaves}
-use Rattle.exports.specs.QuorumCalls.{majorityIndexLeaves, jointIndexLeaves, majorityResultLeaves, jointResultLeaves, singletonLeaves, containsLeaves, jointIdsLeaves, clearLeaves, votersRefusal, jointRefusal, rowsRefusal, leaderCommitLeaves}
+use Rattle.exports.specs.QuorumCalls.{majorityCommittedIndexLeaves, jointCommittedIndexLeaves, majorityVoteResultLeaves, jointVoteResultLeaves, isSingletonLeaves, containsLeaves, jointIdsLeaves, clearLeaves, votersRefusal, jointRefusal, rowsRefusal, leaderCommitLeaves}
 use Rattle.exports.specs.WindowCalls.{newWindowLeaves, setCapLeaves, addLeaves, freeToLeaves, freeFirstOneLeaves, resetLeaves, maybeFreeBufferLeaves, fullLeaves, countLeaves}
 use Rattle.promises.specs.Unique.{OneAnswer, OneOutcome}
 
@@ -129,10 +129,10 @@ majority-committed-index voters peers = one-answer
 pub majority-vote-result : (voters : Voters) (peers : List Peer) → OneAnswer (_≡ voteResult voters peers)
 majority-vote-result voters peers = one-answer
 
-pub majority-committed-index-of : (voters : Voters) (rows : Rows) → OneAnswer (_≡ plainIndex voters rows)
+pub majority-committed-index-of : (voters : Voters) (rows : Rows) → OneAnswer (_≡ plainCommittedIndex voters rows)
 majority-committed-index-of voters rows = one-answer
 
-pub majority-vote-result-of : (voters : Voters) (rows : Rows) → OneAnswer (_≡ plainResult voters rows)
+pub majority-vote-result-of : (voters : Voters) (rows : Rows) → OneAnswer (_≡ plainVoteResult voters rows)
 majority-vote-result-of voters rows = one-answer
 
 -- ---- quorum: joint configurations (joint.rs)
@@ -146,25 +146,25 @@ joint-clear self = one-answer
 pub joint-checked : (self : JointConfig) → OneAnswer (_≡ configCheck self)
 joint-checked self = one-answer
 
-pub joint-is-singleton : (self : JointConfig) → OneAnswer (_≡ singleton self)
+pub joint-is-singleton : (self : JointConfig) → OneAnswer (_≡ isSingleton self)
 joint-is-singleton self = one-answer
 
 pub joint-contains : (self : JointConfig) (id : ℕ) → OneAnswer (_≡ containsOf self id)
 joint-contains self id = one-answer
 
-pub joint-ids : (self : JointConfig) → OneAnswer (_≡ idsAnswer self)
+pub joint-ids : (self : JointConfig) → OneAnswer (_≡ jointIds self)
 joint-ids self = one-answer
 
-pub joint-committed-index : (config : JointConfig) (peers : List Peer) → OneAnswer (_≡ jointIndex config peers)
+pub joint-committed-index : (config : JointConfig) (peers : List Peer) → OneAnswer (_≡ jointCommittedIndex config peers)
 joint-committed-index config peers = one-answer
 
-pub joint-vote-result : (config : JointConfig) (peers : List Peer) → OneAnswer (_≡ jointVerdict config peers)
+pub joint-vote-result : (config : JointConfig) (peers : List Peer) → OneAnswer (_≡ jointVoteResult config peers)
 joint-vote-result config peers = one-answer
 
-pub joint-committed-index-of : (config : JointConfig) (rows : Rows) → OneAnswer (_≡ plainJointIndex config rows)
+pub joint-committed-index-of : (config : JointConfig) (rows : Rows) → OneAnswer (_≡ plainJointCommittedIndex config rows)
 joint-committed-index-of config rows = one-answer
 
-pub joint-vote-result-of : (config : JointConfig) (rows : Rows) → OneAnswer (_≡ plainJointVerdict config rows)
+pub joint-vote-result-of : (config : JointConfig) (rows : Rows) → OneAnswer (_≡ plainJointVoteResult config rows)
 joint-vote-result-of config rows = one-answer
 
 -- ---- quorum: one half, by what its voters said
@@ -203,19 +203,19 @@ rows-vote-number vote = one-answer
 pub table-empty : OneAnswer (_≡ noRows)
 table-empty = one-answer
 
-pub table-with : (self : Table) (peer : Peer) → OneAnswer (_≡ oneMore self peer)
+pub table-with : (self : Table) (peer : Peer) → OneAnswer (_≡ withRow self peer)
 table-with self peer = one-answer
 
-pub table-committed-index : (voters : Voters) (table : Table) → OneAnswer (_≡ tableIndex voters table)
+pub table-committed-index : (voters : Voters) (table : Table) → OneAnswer (_≡ tableCommittedIndex voters table)
 table-committed-index voters table = one-answer
 
-pub table-vote-result : (voters : Voters) (table : Table) → OneAnswer (_≡ tableResult voters table)
+pub table-vote-result : (voters : Voters) (table : Table) → OneAnswer (_≡ tableVoteResult voters table)
 table-vote-result voters table = one-answer
 
-pub table-joint-committed-index : (config : JointConfig) (table : Table) → OneAnswer (_≡ tableJointIndex config table)
+pub table-joint-committed-index : (config : JointConfig) (table : Table) → OneAnswer (_≡ tableJointCommittedIndex config table)
 table-joint-committed-index config table = one-answer
 
-pub table-joint-vote-result : (config : JointConfig) (table : Table) → OneAnswer (_≡ tableJointVerdict config table)
+pub table-joint-vote-result : (config : JointConfig) (table : Table) → OneAnswer (_≡ tableJointVoteResult config table)
 table-joint-vote-result config table = one-answer
 
 -- ---- inflights: the window (tracker/inflights.rs)
@@ -429,19 +429,19 @@ module _ (log settled pending : List ℕ) where
   pub words-log-has-next-entries-since : (s : ℕ) (answer : List ℕ) → OneOutcome (λ r answer′. leaves r (answer′ ∷ []) ≡ hasNextEntriesSinceLeaves log settled pending s answer)
   words-log-has-next-entries-since s answer = one-slice
 
-pub words-majority-committed-index : (voters rows answer : List ℕ) → OneOutcome (λ r answer′. leaves r (answer′ ∷ []) ≡ majorityIndexLeaves voters rows answer)
+pub words-majority-committed-index : (voters rows answer : List ℕ) → OneOutcome (λ r answer′. leaves r (answer′ ∷ []) ≡ majorityCommittedIndexLeaves voters rows answer)
 words-majority-committed-index voters rows answer = one-slice
 
-pub words-joint-committed-index : (incoming outgoing rows answer : List ℕ) → OneOutcome (λ r answer′. leaves r (answer′ ∷ []) ≡ jointIndexLeaves incoming outgoing rows answer)
+pub words-joint-committed-index : (incoming outgoing rows answer : List ℕ) → OneOutcome (λ r answer′. leaves r (answer′ ∷ []) ≡ jointCommittedIndexLeaves incoming outgoing rows answer)
 words-joint-committed-index incoming outgoing rows answer = one-slice
 
-pub words-majority-vote-result : (voters rows answer : List ℕ) → OneOutcome (λ r answer′. leaves r (answer′ ∷ []) ≡ majorityResultLeaves voters rows answer)
+pub words-majority-vote-result : (voters rows answer : List ℕ) → OneOutcome (λ r answer′. leaves r (answer′ ∷ []) ≡ majorityVoteResultLeaves voters rows answer)
 words-majority-vote-result voters rows answer = one-slice
 
-pub words-joint-vote-result : (incoming outgoing rows answer : List ℕ) → OneOutcome (λ r answer′. leaves r (answer′ ∷ []) ≡ jointResultLeaves incoming outgoing rows answer)
+pub words-joint-vote-result : (incoming outgoing rows answer : List ℕ) → OneOutcome (λ r answer′. leaves r (answer′ ∷ []) ≡ jointVoteResultLeaves incoming outgoing rows answer)
 words-joint-vote-result incoming outgoing rows answer = one-slice
 
-pub words-joint-is-singleton : (incoming outgoing answer : List ℕ) → OneOutcome (λ r answer′. leaves r (answer′ ∷ []) ≡ singletonLeaves incoming outgoing answer)
+pub words-joint-is-singleton : (incoming outgoing answer : List ℕ) → OneOutcome (λ r answer′. leaves r (answer′ ∷ []) ≡ isSingletonLeaves incoming outgoing answer)
 words-joint-is-singleton incoming outgoing answer = one-slice
 
 pub words-joint-contains : (incoming outgoing : List ℕ) (id : ℕ) (answer : List ℕ) → OneOutcome (λ r answer′. leaves r (answer′ ∷ []) ≡ containsLeaves incoming outgoing id answer)

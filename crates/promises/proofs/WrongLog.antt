@@ -7,7 +7,7 @@ use Rattle.raft_log.specs.declared.Extended.{Extended}
 use Rattle.raft_log.specs.declared.Decided.{Decided}
 use Rattle.raft_log.specs.declared.Bounds.{Bounds}
 use Rattle.leader.specs.Leader.{leaderCommit}
-use Rattle.two_ends.specs.Follower.{Follower, Message, Outcome as Taken, engine}
+use Rattle.two_ends.specs.Follower.{Follower, Message, Reception, engine}
 use Rattle.exports.specs.Words.{Outcome, yesOrNoLeaves}
 use Rattle.exports.specs.Reads.{lookedLeaves, placedLeaves, infoLeaves, byTermLeaves, boundsLeaves}
 use Rattle.exports.specs.LogCalls.{appendedLeaves, extendedLeaves, changedLeaves, decidedLeaves}
@@ -91,7 +91,7 @@ wrong-log = record {
 }
 
 -- What a receiver answers.
-abbrev answer : Taken → Outcome
+abbrev answer : Reception → Outcome
 answer left = appended (left .answer)
 
 -- A as a follower, and a message to it.

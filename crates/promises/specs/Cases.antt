@@ -22,7 +22,7 @@ use lib.ListN.{replicate}
 use Rattle.quorum.specs.Limits.{voterLimit, rowLimit}
 use Rattle.quorum.specs.Voters.{setOf, noVoters}
 use Rattle.quorum.specs.Majority.{committedIndex, voteResult}
-use Rattle.quorum.specs.Joint.{oneSet, jointIndex}
+use Rattle.quorum.specs.Joint.{oneSet, jointCommittedIndex}
 use Rattle.quorum.specs.declared.Committed.{Committed}
 use Rattle.quorum.specs.declared.Committed.the-variants as answer
 use Rattle.quorum.specs.declared.Verdict.the-variants as verdict
@@ -180,7 +180,7 @@ pub record DocumentCases : Type 0 where
   -- "incoming 5,4,3 gives 4, outgoing 3,8 gives 3, joint 3"
   pub incoming : committedIndex (threeAndTwo .incoming) (acking (5 ∷ 4 ∷ 3 ∷ 3 ∷ 8 ∷ [])) ≡ upTo 4
   pub outgoing : committedIndex (threeAndTwo .outgoing) (acking (5 ∷ 4 ∷ 3 ∷ 3 ∷ 8 ∷ [])) ≡ upTo 3
-  pub joint : jointIndex threeAndTwo (acking (5 ∷ 4 ∷ 3 ∷ 3 ∷ 8 ∷ [])) ≡ upTo 3
+  pub joint : jointCommittedIndex threeAndTwo (acking (5 ∷ 4 ∷ 3 ∷ 3 ∷ 8 ∷ [])) ≡ upTo 3
   -- "four voters, two yes, one no: Pending; two yes, two no: Lost"
   pub one-vote-missing : voteResult (votersFrom 1 4) (voting (vote.Yes ∷ vote.Yes ∷ vote.No ∷ [])) ≡ verdict.Stands result.Pending
   pub two-against-two : voteResult (votersFrom 1 4) (voting (vote.Yes ∷ vote.Yes ∷ vote.No ∷ vote.No ∷ [])) ≡ verdict.Stands result.Lost

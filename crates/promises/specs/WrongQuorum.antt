@@ -19,8 +19,8 @@ use Rattle.quorum.specs.Rows.{nobody, ackNumber, voteNumber, rowsCheck, valueFo
 use Rattle.quorum.specs.Voters.{votersCheck, setOf, noVoters, made}
 use Rattle.quorum.specs.Votes.{isYes, isMissing, resultOf, jointResult}
 use Rattle.quorum.specs.Half.{halfIndex, joined, numbersResult}
-use Rattle.quorum.specs.Majority.{indexUnless, resultUnless, acksOf, votesOf, committedIndex, voteResult, plainIndex, plainResult}
-use Rattle.quorum.specs.Joint.{oneSet, configCheck, jointIndex, jointVerdict, plainJointIndex, plainJointVerdict, singleton, containsOf, listed, idsAnswer}
+use Rattle.quorum.specs.Majority.{indexUnless, resultUnless, acksOf, votesOf, committedIndex, voteResult, plainCommittedIndex, plainVoteResult}
+use Rattle.quorum.specs.Joint.{oneSet, configCheck, jointCommittedIndex, jointVoteResult, plainJointCommittedIndex, plainJointVoteResult, isSingleton, containsOf, idList, jointIds}
 use Rattle.quorum.specs.declared.Committed.{Committed}
 use Rattle.quorum.specs.declared.Verdict.{Verdict}
 use Rattle.quorum.specs.declared.Verdict.the-variants as verdict
@@ -36,7 +36,7 @@ use Rattle.quorum.specs.declared.rows.Vote.the-variants as vote
 use Rattle.quorum.specs.declared.rows.Peer.{Peer}
 use Rattle.quorum.specs.declared.rows.Question.the-variants as question
 use Rattle.quorum.specs.declared.rows.Rows.{Rows}
-use Rattle.peer_tables.specs.Table.{noRows, oneMore, tableIndex, tableResult, tableJointIndex, tableJointVerdict}
+use Rattle.peer_tables.specs.Table.{noRows, withRow, tableCommittedIndex, tableVoteResult, tableJointCommittedIndex, tableJointVoteResult}
 use Rattle.peer_tables.specs.declared.Table.{Table}
 use Rattle.promises.specs.Cases.{idsFrom, votersFrom, threeVoters, voterTwice, halves, acked, acking, voting, upTo, threeAndTwo}
 
@@ -83,8 +83,8 @@ abbrev pub fullTable : Table
 fullTable = tableOf (acking (replicate rowLimit 5))
 
 -- That table after one row more than it takes: "over 64 rows".
-abbrev pub overfull : Table
-overfull = oneMore fullTable somebody
+abbrev pub overfullTable : Table
+overfullTable = withRow fullTable somebody
 
 -- ---- THE TABLE: what each call does not answer.
 pub record WrongQuorum : Type 0 where
@@ -147,13 +147,13 @@ pub record WrongQuorum : Type 0 where
   -- Four voters, two yes, two no: Won, with half of the votes. It is Lost.
   pub majority-vote-result-half : voteResult (votersFrom 1 4) (voting (vote.Yes ∷ vote.Yes ∷ vote.No ∷ vote.No ∷ [])) ≢ verdict.Stands result.Won
   -- The voter 1, two rows of 1 at 4 and 6: 4, by the first row. It is 12.
-  pub majority-committed-index-of-repeated : plainIndex (votersFrom 1 1) (gathered question.Index twiceOne) ≢ upTo 4
+  pub majority-committed-index-of-repeated : plainCommittedIndex (votersFrom 1 1) (gathered question.Index twiceOne) ≢ upTo 4
   -- Voters 3, 4, 5, rows of 1 to 5 at 9, 9, 9, 2, 2: 9, where each voter reads a row by its place and not by its id. It is 2.
-  pub majority-committed-index-of-by-place : plainIndex (votersFrom 3 3) (ackRows (9 ∷ 9 ∷ 9 ∷ 2 ∷ 2 ∷ [])) ≢ upTo 9
+  pub majority-committed-index-of-by-place : plainCommittedIndex (votersFrom 3 3) (ackRows (9 ∷ 9 ∷ 9 ∷ 2 ∷ 2 ∷ [])) ≢ upTo 9
   -- The voter 1, 65 rows, all yes: Won. It is 12.
-  pub majority-vote-result-of-too-many : plainResult (votersFrom 1 1) (voteRows (replicate (suc rowLimit) vote.Yes)) ≢ verdict.Stands result.Won
+  pub majority-vote-result-of-too-many : plainVoteResult (votersFrom 1 1) (voteRows (replicate (suc rowLimit) vote.Yes)) ≢ verdict.Stands result.Won
   -- Three voters, one yes: Lost, where a missing vote is a no. It is Pending.
-  pub majority-vote-result-of-missing : plainResult (votersFrom 1 3) (voteRows (vote.Yes ∷ [])) ≢ verdict.Stands result.Lost
+  pub majority-vote-result-of-missing : plainVoteResult (votersFrom 1 3) (voteRows (vote.Yes ∷ [])) ≢ verdict.Stands result.Lost
   -- ---- quorum: joint configurations
   -- Voters 1, 2, 3: put into the outgoing half.
   pub joint-new-outgoing : oneSet (votersFrom 1 3) ≢ halves noVoters (votersFrom 1 3)
@@ -168,30 +168,30 @@ pub record WrongQuorum : Type 0 where
   -- 1, 2, 3 and 3, 4: 12, where an id may not stand in both halves. It is fine.
   pub joint-checked-in-both : configCheck (halves (votersFrom 1 3) (votersFrom 3 2)) ≢ check.Refused brokenSet
   -- 1 and 2: yes, the outgoing half not asked.
-  pub joint-is-singleton-outgoing : singleton (halves (votersFrom 1 1) (votersFrom 2 1)) ≢ yes-or-no.Is true
+  pub joint-is-singleton-outgoing : isSingleton (halves (votersFrom 1 1) (votersFrom 2 1)) ≢ yes-or-no.Is true
   -- 1, 1 and nobody: yes, the repeated id dropped. It is 12.
-  pub joint-is-singleton-repeated : singleton voterTwice ≢ yes-or-no.Is true
+  pub joint-is-singleton-repeated : isSingleton voterTwice ≢ yes-or-no.Is true
   -- 1, 2, 3 and 4, 5, asked for 4: no, the outgoing half not asked.
   pub joint-contains-outgoing : containsOf threeAndTwo 4 ≢ yes-or-no.Is false
   -- 1, 2, 3 and 4, 5, asked for 0: yes, by an unused word.
   pub joint-contains-unused : containsOf threeAndTwo 0 ≢ yes-or-no.Is true
   -- 1, 2, 3 and 3, 4: the 3 listed twice.
-  pub joint-ids-twice : idsAnswer (halves (votersFrom 1 3) (votersFrom 3 2)) ≢ listed check.Fine (1 ∷ 2 ∷ 3 ∷ 3 ∷ 4 ∷ [])
+  pub joint-ids-twice : jointIds (halves (votersFrom 1 3) (votersFrom 3 2)) ≢ idList check.Fine (1 ∷ 2 ∷ 3 ∷ 3 ∷ 4 ∷ [])
   -- 4, 5 and 1, 2: one half behind the other, not in rising order.
-  pub joint-ids-order : idsAnswer (halves (votersFrom 4 2) (votersFrom 1 2)) ≢ listed check.Fine (4 ∷ 5 ∷ 1 ∷ 2 ∷ [])
+  pub joint-ids-order : jointIds (halves (votersFrom 4 2) (votersFrom 1 2)) ≢ idList check.Fine (4 ∷ 5 ∷ 1 ∷ 2 ∷ [])
   -- Incoming at 5, 4, 3, outgoing at 3, 8: 4, the larger of 4 and 3.
-  pub joint-committed-index-larger : jointIndex threeAndTwo (acking (5 ∷ 4 ∷ 3 ∷ 3 ∷ 8 ∷ [])) ≢ upTo 4
+  pub joint-committed-index-larger : jointCommittedIndex threeAndTwo (acking (5 ∷ 4 ∷ 3 ∷ 3 ∷ 8 ∷ [])) ≢ upTo 4
   -- Incoming at 5, 4, 3, nobody outgoing: 0, the empty half counted as 0. It is 4.
-  pub joint-committed-index-empty : jointIndex threeVoters (acking (5 ∷ 4 ∷ 3 ∷ [])) ≢ upTo 0
+  pub joint-committed-index-empty : jointCommittedIndex threeVoters (acking (5 ∷ 4 ∷ 3 ∷ [])) ≢ upTo 0
   -- Incoming all yes, outgoing one yes and one missing: Won, the outgoing half not waited for. It is Pending.
-  pub joint-vote-result-one-half : jointVerdict threeAndTwo (voting (vote.Yes ∷ vote.Yes ∷ vote.Yes ∷ vote.Yes ∷ [])) ≢ verdict.Stands result.Won
+  pub joint-vote-result-one-half : jointVoteResult threeAndTwo (voting (vote.Yes ∷ vote.Yes ∷ vote.Yes ∷ vote.Yes ∷ [])) ≢ verdict.Stands result.Won
   -- Incoming one yes and two missing, outgoing all no: Pending, the incoming half waited for. It is Lost.
-  pub joint-vote-result-waits : jointVerdict threeAndTwo (voting (vote.Yes ∷ vote.Missing ∷ vote.Missing ∷ vote.No ∷ vote.No ∷ [])) ≢ verdict.Stands result.Pending
+  pub joint-vote-result-waits : jointVoteResult threeAndTwo (voting (vote.Yes ∷ vote.Missing ∷ vote.Missing ∷ vote.No ∷ vote.No ∷ [])) ≢ verdict.Stands result.Pending
   -- The same four, over gathered rows.
-  pub joint-committed-index-of-larger : plainJointIndex threeAndTwo (ackRows (5 ∷ 4 ∷ 3 ∷ 3 ∷ 8 ∷ [])) ≢ upTo 4
-  pub joint-committed-index-of-empty : plainJointIndex threeVoters (ackRows (5 ∷ 4 ∷ 3 ∷ [])) ≢ upTo 0
-  pub joint-vote-result-of-one-half : plainJointVerdict threeAndTwo (voteRows (vote.Yes ∷ vote.Yes ∷ vote.Yes ∷ vote.Yes ∷ [])) ≢ verdict.Stands result.Won
-  pub joint-vote-result-of-waits : plainJointVerdict threeAndTwo (voteRows (vote.Yes ∷ vote.Missing ∷ vote.Missing ∷ vote.No ∷ vote.No ∷ [])) ≢ verdict.Stands result.Pending
+  pub joint-committed-index-of-larger : plainJointCommittedIndex threeAndTwo (ackRows (5 ∷ 4 ∷ 3 ∷ 3 ∷ 8 ∷ [])) ≢ upTo 4
+  pub joint-committed-index-of-empty : plainJointCommittedIndex threeVoters (ackRows (5 ∷ 4 ∷ 3 ∷ [])) ≢ upTo 0
+  pub joint-vote-result-of-one-half : plainJointVoteResult threeAndTwo (voteRows (vote.Yes ∷ vote.Yes ∷ vote.Yes ∷ vote.Yes ∷ [])) ≢ verdict.Stands result.Won
+  pub joint-vote-result-of-waits : plainJointVoteResult threeAndTwo (voteRows (vote.Yes ∷ vote.Missing ∷ vote.Missing ∷ vote.No ∷ vote.No ∷ [])) ≢ verdict.Stands result.Pending
   -- ---- quorum: one half, by what its voters said
   -- 5, 5, 5: 0. It is 5.
   pub half-index-of-zero : halfIndex (5 ∷ 5 ∷ 5 ∷ []) ≢ record { index = 0; free = false }
@@ -236,25 +236,25 @@ pub record WrongQuorum : Type 0 where
   -- The empty table: rows that have acknowledged 0, where it is missing.
   pub table-empty-zeros : noRows ≢ record { peers = replicate rowLimit (acked 0 0); count = 0 }
   -- One row into the empty table: written and not counted.
-  pub table-with-not-counted : oneMore noRows somebody ≢ tableWith 0 (somebody ∷ [])
+  pub table-with-not-counted : withRow noRows somebody ≢ tableWith 0 (somebody ∷ [])
   -- One row into a full table: the table as it was, the row lost with no sign.
-  pub table-with-stays-full : overfull ≢ fullTable
+  pub table-with-stays-full : overfullTable ≢ fullTable
   -- Three voters at 5 in an overfull table: 5. It is 12.
-  pub table-committed-index-too-many : tableIndex (votersFrom 1 3) overfull ≢ upTo 5
+  pub table-committed-index-too-many : tableCommittedIndex (votersFrom 1 3) overfullTable ≢ upTo 5
   -- Three voters at 5, 2, 5: 2, the last row left out. It is 5.
-  pub table-committed-index-last-row : tableIndex (votersFrom 1 3) (tableOf (acking (5 ∷ 2 ∷ 5 ∷ []))) ≢ upTo 2
+  pub table-committed-index-last-row : tableCommittedIndex (votersFrom 1 3) (tableOf (acking (5 ∷ 2 ∷ 5 ∷ []))) ≢ upTo 2
   -- An overfull table: 7, no room. It is 12.
-  pub table-vote-result-by-seven : tableResult (votersFrom 1 3) overfull ≢ verdict.Refused noRoom
+  pub table-vote-result-by-seven : tableVoteResult (votersFrom 1 3) overfullTable ≢ verdict.Refused noRoom
   -- Three yes, of which one row is counted: Won, by unused rows. It is Pending.
-  pub table-vote-result-unused : tableResult (votersFrom 1 3) (tableWith 1 (voting (vote.Yes ∷ vote.Yes ∷ vote.Yes ∷ []))) ≢ verdict.Stands result.Won
+  pub table-vote-result-unused : tableVoteResult (votersFrom 1 3) (tableWith 1 (voting (vote.Yes ∷ vote.Yes ∷ vote.Yes ∷ []))) ≢ verdict.Stands result.Won
   -- Both halves at 5 in an overfull table: 5. It is 12.
-  pub table-joint-committed-index-too-many : tableJointIndex threeAndTwo overfull ≢ upTo 5
+  pub table-joint-committed-index-too-many : tableJointCommittedIndex threeAndTwo overfullTable ≢ upTo 5
   -- Incoming at 5, 4, 3, outgoing at 3, 8: 0, the last row left out. It is 3.
-  pub table-joint-committed-index-last-row : tableJointIndex threeAndTwo (tableOf (acking (5 ∷ 4 ∷ 3 ∷ 3 ∷ 8 ∷ []))) ≢ upTo 0
+  pub table-joint-committed-index-last-row : tableJointCommittedIndex threeAndTwo (tableOf (acking (5 ∷ 4 ∷ 3 ∷ 3 ∷ 8 ∷ []))) ≢ upTo 0
   -- An overfull table: 7, no room. It is 12.
-  pub table-joint-vote-result-by-seven : tableJointVerdict threeAndTwo overfull ≢ verdict.Refused noRoom
+  pub table-joint-vote-result-by-seven : tableJointVoteResult threeAndTwo overfullTable ≢ verdict.Refused noRoom
   -- Five yes, of which three rows are counted: Won, by unused rows. It is Pending.
-  pub table-joint-vote-result-unused : tableJointVerdict threeAndTwo (tableWith 3 (voting (vote.Yes ∷ vote.Yes ∷ vote.Yes ∷ vote.Yes ∷ vote.Yes ∷ []))) ≢ verdict.Stands result.Won
+  pub table-joint-vote-result-unused : tableJointVoteResult threeAndTwo (tableWith 3 (voting (vote.Yes ∷ vote.Yes ∷ vote.Yes ∷ vote.Yes ∷ vote.Yes ∷ []))) ≢ verdict.Stands result.Won
 
 -- ---- WRONG ENGINES
 
@@ -297,18 +297,18 @@ halfWins votes =
 pub record WrongEnginesQuorum : Type 0 where
   -- One thing alone is wrong with them: by the right rule each is the promise.
   pub index-by-the-rule : (v : Voters) (peers : List Peer) → committedIndex v peers ≡ indexBy halfIndex v peers
-  pub joint-index-by-the-rule : (c : JointConfig) (peers : List Peer) → jointIndex c peers ≡ jointIndexBy halfIndex c peers
+  pub joint-index-by-the-rule : (c : JointConfig) (peers : List Peer) → jointCommittedIndex c peers ≡ jointIndexBy halfIndex c peers
   pub result-by-the-rule : (v : Voters) (peers : List Peer) → voteResult v peers ≡ resultBy resultOf v peers
-  pub joint-result-by-the-rule : (c : JointConfig) (peers : List Peer) → jointVerdict c peers ≡ jointResultBy resultOf c peers
+  pub joint-result-by-the-rule : (c : JointConfig) (peers : List Peer) → jointVoteResult c peers ≡ jointResultBy resultOf c peers
   -- Three voters, all at 5.
   pub answers-zero : ¬ ((v : Voters) (peers : List Peer) → committedIndex v peers ≡ indexBy answersZero v peers)
-  pub answers-zero-joint : ¬ ((c : JointConfig) (peers : List Peer) → jointIndex c peers ≡ jointIndexBy answersZero c peers)
+  pub answers-zero-joint : ¬ ((c : JointConfig) (peers : List Peer) → jointCommittedIndex c peers ≡ jointIndexBy answersZero c peers)
   -- Three voters, all yes.
   pub stays-pending : ¬ ((v : Voters) (peers : List Peer) → voteResult v peers ≡ resultBy staysPending v peers)
-  pub stays-pending-joint : ¬ ((c : JointConfig) (peers : List Peer) → jointVerdict c peers ≡ jointResultBy staysPending c peers)
+  pub stays-pending-joint : ¬ ((c : JointConfig) (peers : List Peer) → jointVoteResult c peers ≡ jointResultBy staysPending c peers)
   -- Four voters at 9, 7, 3, 3.
   pub half-is-enough : ¬ ((v : Voters) (peers : List Peer) → committedIndex v peers ≡ indexBy halfIsEnough v peers)
-  pub half-is-enough-joint : ¬ ((c : JointConfig) (peers : List Peer) → jointIndex c peers ≡ jointIndexBy halfIsEnough c peers)
+  pub half-is-enough-joint : ¬ ((c : JointConfig) (peers : List Peer) → jointCommittedIndex c peers ≡ jointIndexBy halfIsEnough c peers)
   -- Four voters, two yes, two no.
   pub half-wins : ¬ ((v : Voters) (peers : List Peer) → voteResult v peers ≡ resultBy halfWins v peers)
-  pub half-wins-joint : ¬ ((c : JointConfig) (peers : List Peer) → jointVerdict c peers ≡ jointResultBy halfWins c peers)
+  pub half-wins-joint : ¬ ((c : JointConfig) (peers : List Peer) → jointVoteResult c peers ≡ jointResultBy halfWins c peers)

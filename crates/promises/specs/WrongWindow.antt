@@ -45,8 +45,8 @@ abbrev pub ofCap : ℕ → ℕ → ℕ → Inflights
 ofCap cap start count = record { start = start; count = count; cap = cap; deferred = Nothing }
 
 -- One of cap 5: "cap above the ring" of 4 words, broken (13).
-abbrev pub broken : ℕ → ℕ → Inflights
-broken start count = ofCap 5 start count
+abbrev pub aboveRing : ℕ → ℕ → Inflights
+aboveRing start count = ofCap 5 start count
 
 -- What a call of `bridge` hands back: the window, and the number beside it.
 abbrev pub stepLeft : Inflights → ℕ → Step
@@ -62,7 +62,7 @@ pub record WrongWindow : Type 0 where
   -- Three flights, cap 2: in effect at once. It is deferred.
   pub set-cap-at-once : capped three 4 2 ≢ Now (ofCap 2 0 3)
   -- A broken window, cap 5: 7, for the cap that is handed in. It is 13.
-  pub set-cap-seven-first : capped (broken 0 3) 4 5 ≢ Refused noRoom
+  pub set-cap-seven-first : capped (aboveRing 0 3) 4 5 ≢ Refused noRoom
   -- Two flights, cap 4, deferred 2: not full.
   pub full-deferred : fullness (window 0 2 (Cap 2)) 4 ≢ yes-or-no.Is false
   -- Three flights, cap 4: full, one too early.
@@ -92,7 +92,7 @@ pub record WrongWindow : Type 0 where
   -- Three flights, cap 4: 4, the cap.
   pub count-cap : counted three 4 ≢ Is 4
   -- A broken window: its count. It is 13.
-  pub count-broken : counted (broken 0 3) 4 ≢ Is 3
+  pub count-broken : counted (aboveRing 0 3) 4 ≢ Is 3
   -- ---- in place: the number that is returned, and the window that is left
   -- Three flights, cap 5 in 4 words: 0 for 7.
   pub in-place-set-cap-no-refusal : ¬ Stored 0 three (stepOf three (capped three 4 5))
@@ -105,21 +105,21 @@ pub record WrongWindow : Type 0 where
   -- 5 into an empty window: 0, one flight counted, and the word not written.
   pub in-place-add-not-written : ¬ (Stored 0 (window 0 1 Nothing) (stepOf empty (added empty 4)) × (old ≡ ringAfter empty old 5))
   -- 5, 5, 6 in a broken window, free to 5: 0 for 13.
-  pub in-place-free-to-no-refusal : ¬ Stored 0 (broken 0 3) (stepOf (broken 0 3) (freedTo (broken 0 3) flown 5))
+  pub in-place-free-to-no-refusal : ¬ Stored 0 (aboveRing 0 3) (stepOf (aboveRing 0 3) (freedTo (aboveRing 0 3) flown 5))
   -- 5, 5, 6 in a broken window, free to 5: 13, and two freed all the same.
-  pub in-place-free-to-changed : ¬ Stored brokenWindow (broken 2 1) (stepOf (broken 0 3) (freedTo (broken 0 3) flown 5))
+  pub in-place-free-to-changed : ¬ Stored brokenWindow (aboveRing 2 1) (stepOf (aboveRing 0 3) (freedTo (aboveRing 0 3) flown 5))
   -- 5, 5, 6 in a broken window: 0 for 13.
-  pub in-place-free-first-one-no-refusal : ¬ Stored 0 (broken 0 3) (stepOf (broken 0 3) (freedFirst (broken 0 3) flown))
+  pub in-place-free-first-one-no-refusal : ¬ Stored 0 (aboveRing 0 3) (stepOf (aboveRing 0 3) (freedFirst (aboveRing 0 3) flown))
   -- 5, 5, 6 in a broken window: 13, and two freed all the same.
-  pub in-place-free-first-one-changed : ¬ Stored brokenWindow (broken 2 1) (stepOf (broken 0 3) (freedFirst (broken 0 3) flown))
+  pub in-place-free-first-one-changed : ¬ Stored brokenWindow (aboveRing 2 1) (stepOf (aboveRing 0 3) (freedFirst (aboveRing 0 3) flown))
   -- A broken window: 0 for 13.
-  pub in-place-reset-no-refusal : ¬ Stored 0 (broken 0 3) (stepOf (broken 0 3) (cleared (broken 0 3) 4))
+  pub in-place-reset-no-refusal : ¬ Stored 0 (aboveRing 0 3) (stepOf (aboveRing 0 3) (cleared (aboveRing 0 3) 4))
   -- A broken window: 13, and emptied all the same.
-  pub in-place-reset-changed : ¬ Stored brokenWindow (emptyOf 5) (stepOf (broken 0 3) (cleared (broken 0 3) 4))
+  pub in-place-reset-changed : ¬ Stored brokenWindow (emptyOf 5) (stepOf (aboveRing 0 3) (cleared (aboveRing 0 3) 4))
   -- A broken window with an empty queue at start 3: 0 for 13.
-  pub in-place-maybe-free-buffer-no-refusal : ¬ Stored 0 (broken 3 0) (stepOf (broken 3 0) (rewound (broken 3 0) 4))
+  pub in-place-maybe-free-buffer-no-refusal : ¬ Stored 0 (aboveRing 3 0) (stepOf (aboveRing 3 0) (rewound (aboveRing 3 0) 4))
   -- A broken window with an empty queue at start 3: 13, and start 0 all the same.
-  pub in-place-maybe-free-buffer-changed : ¬ Stored brokenWindow (broken 0 0) (stepOf (broken 3 0) (rewound (broken 3 0) 4))
+  pub in-place-maybe-free-buffer-changed : ¬ Stored brokenWindow (aboveRing 0 0) (stepOf (aboveRing 3 0) (rewound (aboveRing 3 0) 4))
   -- ---- over the bridge: the window that is handed back, and the number beside it
   -- Three flights, cap 5 in 4 words: 0 for 7.
   pub bridge-set-cap-no-refusal : stepOf three (capped three 4 5) ≢ stepLeft three 0
@@ -132,19 +132,19 @@ pub record WrongWindow : Type 0 where
   -- 5 into an empty window: one flight counted, and the word not written.
   pub bridge-add-not-written : ¬ ((stepOf empty (added empty 4) ≡ stepLeft (window 0 1 Nothing) 0) × (ringAfter empty old 5 ≡ old))
   -- 5, 5, 6 in a broken window, free to 5: 0 for 13.
-  pub bridge-free-to-no-refusal : stepOf (broken 0 3) (freedTo (broken 0 3) flown 5) ≢ stepLeft (broken 0 3) 0
+  pub bridge-free-to-no-refusal : stepOf (aboveRing 0 3) (freedTo (aboveRing 0 3) flown 5) ≢ stepLeft (aboveRing 0 3) 0
   -- 5, 5, 6, free to 5: the window as it was handed in.
   pub bridge-free-to-unchanged : stepOf three (freedTo three flown 5) ≢ stepLeft three 0
   -- 5, 5, 6 in a broken window: 0 for 13.
-  pub bridge-free-first-one-no-refusal : stepOf (broken 0 3) (freedFirst (broken 0 3) flown) ≢ stepLeft (broken 0 3) 0
+  pub bridge-free-first-one-no-refusal : stepOf (aboveRing 0 3) (freedFirst (aboveRing 0 3) flown) ≢ stepLeft (aboveRing 0 3) 0
   -- 5, 5, 6: the window as it was handed in.
   pub bridge-free-first-one-unchanged : stepOf three (freedFirst three flown) ≢ stepLeft three 0
   -- A broken window: 0 for 13.
-  pub bridge-reset-no-refusal : stepOf (broken 0 3) (cleared (broken 0 3) 4) ≢ stepLeft (broken 0 3) 0
+  pub bridge-reset-no-refusal : stepOf (aboveRing 0 3) (cleared (aboveRing 0 3) 4) ≢ stepLeft (aboveRing 0 3) 0
   -- Three flights: the window as it was handed in.
   pub bridge-reset-unchanged : stepOf three (cleared three 4) ≢ stepLeft three 0
   -- A broken window with an empty queue at start 3: 0 for 13.
-  pub bridge-maybe-free-buffer-no-refusal : stepOf (broken 3 0) (rewound (broken 3 0) 4) ≢ stepLeft (broken 3 0) 0
+  pub bridge-maybe-free-buffer-no-refusal : stepOf (aboveRing 3 0) (rewound (aboveRing 3 0) 4) ≢ stepLeft (aboveRing 3 0) 0
   -- An empty queue at start 3: the window as it was handed in.
   pub bridge-maybe-free-buffer-unchanged : stepOf (window 3 0 Nothing) (rewound (window 3 0 Nothing) 4) ≢ stepLeft (window 3 0 Nothing) 0
 

@@ -12,7 +12,7 @@ use Rattle.quorum.specs.Limits.{voterLimit, rowLimit}
 use Rattle.exports.specs.Words.{idsLength, logWords, Outcome, leaves}
 use Rattle.exports.specs.Reads.{termLeaves, firstIndexLeaves, lastIndexLeaves, lastTermLeaves, commitInfoLeaves, isUpToDateLeaves, findConflictByTermLeaves, sliceLeaves, entriesLeaves, nextEntriesSinceLeaves, hasNextEntriesSinceLeaves}
 use Rattle.exports.specs.LogCalls.{newLogLeaves, maybeAppendLeaves, appendLeaves, commitToLeaves, appliedToLeaves, maybeCommitLeaves, maybePersistLeaves, stableEntriesLeaves}
-use Rattle.exports.specs.QuorumCalls.{majorityIndexLeaves, majorityResultLeaves, jointIndexLeaves, jointResultLeaves, singletonLeaves, containsLeaves, jointIdsLeaves, clearLeaves, votersRefusal, jointRefusal, rowsRefusal, leaderCommitLeaves}
+use Rattle.exports.specs.QuorumCalls.{majorityCommittedIndexLeaves, majorityVoteResultLeaves, jointCommittedIndexLeaves, jointVoteResultLeaves, isSingletonLeaves, containsLeaves, jointIdsLeaves, clearLeaves, votersRefusal, jointRefusal, rowsRefusal, leaderCommitLeaves}
 use Rattle.exports.specs.WindowCalls.{newWindowLeaves, setCapLeaves, addLeaves, freeToLeaves, freeFirstOneLeaves, resetLeaves, maybeFreeBufferLeaves, fullLeaves, countLeaves}
 use Rattle.two_ends.specs.Sanity.{log-with}
 use Rattle.promises.specs.Cases.{logA, allCommittedA, settledA, pendingA, message, idsFrom, idTwice, nines, old, flown}
@@ -161,25 +161,25 @@ pub record WrongWords : Type 0 where
   -- `log_has_next_entries_since(1)` of A: 2 for yes.
   pub log-has-next-entries-since-two : callA hasNextEntriesSinceLeaves 1 (nines 1) ≢ writes (2 ∷ [])
   -- `majority_committed_index` of the voters 1, 2, 3, where row 1 stands twice: an index.
-  pub majority-committed-index-row-twice : majorityIndexLeaves (idsFrom 1 3) (acks 1 5 ++ acks 1 5) (nines 2) ≢ writes (5 ∷ 0 ∷ [])
+  pub majority-committed-index-row-twice : majorityCommittedIndexLeaves (idsFrom 1 3) (acks 1 5 ++ acks 1 5) (nines 2) ≢ writes (5 ∷ 0 ∷ [])
   -- The same with the rows of 2 and 3 missing their acknowledgement: the index that stands behind is read.
-  pub majority-committed-index-reads-missing : majorityIndexLeaves (idsFrom 1 3) (acks 1 5 ++ acksNothing 2 5 ++ acksNothing 3 5) (nines 2) ≢ writes (5 ∷ 0 ∷ [])
+  pub majority-committed-index-reads-missing : majorityCommittedIndexLeaves (idsFrom 1 3) (acks 1 5 ++ acksNothing 2 5 ++ acksNothing 3 5) (nines 2) ≢ writes (5 ∷ 0 ∷ [])
   -- `joint_committed_index` of the voters 1, 2, 3 and nobody outgoing: the flag of the empty half.
-  pub joint-committed-index-flag-of-one : jointIndexLeaves (idsFrom 1 3) [] fiveRows (nines 2) ≢ writes (4 ∷ 1 ∷ [])
+  pub joint-committed-index-flag-of-one : jointCommittedIndexLeaves (idsFrom 1 3) [] fiveRows (nines 2) ≢ writes (4 ∷ 1 ∷ [])
   -- `joint_committed_index` of 1, 2, 3 and 4, 5: the larger of 4 and 3.
-  pub joint-committed-index-larger : jointIndexLeaves (idsFrom 1 3) (idsFrom 4 2) fiveRows (nines 2) ≢ writes (4 ∷ 0 ∷ [])
+  pub joint-committed-index-larger : jointCommittedIndexLeaves (idsFrom 1 3) (idsFrom 4 2) fiveRows (nines 2) ≢ writes (4 ∷ 0 ∷ [])
   -- `majority_vote_result` of the voters 1, 2, 3, two yes: 1 for won.
-  pub majority-vote-result-one-for-won : majorityResultLeaves (idsFrom 1 3) twoYes (nines 1) ≢ writes (1 ∷ [])
+  pub majority-vote-result-one-for-won : majorityVoteResultLeaves (idsFrom 1 3) twoYes (nines 1) ≢ writes (1 ∷ [])
   -- `majority_vote_result` of eight voters: a verdict.
-  pub majority-vote-result-too-many-voters : majorityResultLeaves (idsFrom 1 (suc voterLimit)) twoYes (nines 1) ≢ writes (0 ∷ [])
+  pub majority-vote-result-too-many-voters : majorityVoteResultLeaves (idsFrom 1 (suc voterLimit)) twoYes (nines 1) ≢ writes (0 ∷ [])
   -- `joint_vote_result` of 1, 2, 3 and 4, 5, where only the first half has won: won.
-  pub joint-vote-result-one-half : jointResultLeaves (idsFrom 1 3) (idsFrom 4 2) twoYes (nines 1) ≢ writes (2 ∷ [])
+  pub joint-vote-result-one-half : jointVoteResultLeaves (idsFrom 1 3) (idsFrom 4 2) twoYes (nines 1) ≢ writes (2 ∷ [])
   -- `joint_vote_result` with eight outgoing voters: a verdict.
-  pub joint-vote-result-too-many-voters : jointResultLeaves (idsFrom 1 3) (idsFrom 1 (suc voterLimit)) twoYes (nines 1) ≢ writes (0 ∷ [])
+  pub joint-vote-result-too-many-voters : jointVoteResultLeaves (idsFrom 1 3) (idsFrom 1 (suc voterLimit)) twoYes (nines 1) ≢ writes (0 ∷ [])
   -- `joint_is_singleton` with one voter in each half: yes.
-  pub joint-is-singleton-each-half : singletonLeaves (1 ∷ []) (2 ∷ []) (nines 1) ≢ writes (1 ∷ [])
+  pub joint-is-singleton-each-half : isSingletonLeaves (1 ∷ []) (2 ∷ []) (nines 1) ≢ writes (1 ∷ [])
   -- `joint_is_singleton` with an outgoing voter that stands twice: no, where 12 is given.
-  pub joint-is-singleton-broken : singletonLeaves (1 ∷ []) (2 ∷ 2 ∷ []) (nines 1) ≢ writes (0 ∷ [])
+  pub joint-is-singleton-broken : isSingletonLeaves (1 ∷ []) (2 ∷ 2 ∷ []) (nines 1) ≢ writes (0 ∷ [])
   -- `joint_contains(4)` of 1, 2, 3 and 4, 5: no for an outgoing voter.
   pub joint-contains-incoming-only : containsLeaves (idsFrom 1 3) (idsFrom 4 2) 4 (nines 1) ≢ writes (0 ∷ [])
   -- `joint_contains(0)` of it: yes for an unused word of a set.

@@ -14,8 +14,8 @@ use Rattle.quorum.specs.Rows.{nobody, idOf, rowOf, voteNumber, rowsCheck
 use Rattle.quorum.specs.Voters.{votersOf, votersCheck}
 use Rattle.quorum.specs.Votes.{isYes, isMissing, resultOf}
 use Rattle.quorum.specs.Half.{halfIndex, valueIn, numbersResult}
-use Rattle.quorum.specs.Majority.{acksOf, votesOf, committedIndex, voteResult, plainValues, plainIndex, plainResult}
-use Rattle.quorum.specs.Joint.{configCheck, jointIndex, jointVerdict, plainJointIndex, plainJointVerdict}
+use Rattle.quorum.specs.Majority.{acksOf, votesOf, committedIndex, voteResult, plainValues, plainCommittedIndex, plainVoteResult}
+use Rattle.quorum.specs.Joint.{configCheck, jointCommittedIndex, jointVoteResult, plainJointCommittedIndex, plainJointVoteResult}
 use Rattle.quorum.specs.declared.Committed.the-variants as answer
 use Rattle.quorum.specs.declared.Verdict.the-variants as verdict
 use Rattle.quorum.specs.declared.majority.Voters.{Voters}
@@ -79,18 +79,18 @@ module _ (peers : List Peer) where
   half-acks v h = ap halfIndex (values-read question.Index peers v h)
 
   -- THE LAWS, one for each thin call
-  pub gathered-index : (v : Voters) → plainIndex v (gathered question.Index peers) ≡ committedIndex v peers
-  unfolding plainIndex committedIndex
+  pub gathered-index : (v : Voters) → plainCommittedIndex v (gathered question.Index peers) ≡ committedIndex v peers
+  unfolding plainCommittedIndex committedIndex
   gathered-index v = answers-alike question.Index peers answer.Refused (votersCheck v) (λ h. cc (half-acks v h))
 
-  pub gathered-result : (v : Voters) → plainResult v (gathered question.Vote peers) ≡ voteResult v peers
-  unfolding plainResult voteResult
+  pub gathered-result : (v : Voters) → plainVoteResult v (gathered question.Vote peers) ≡ voteResult v peers
+  unfolding plainVoteResult voteResult
   gathered-result v = answers-alike question.Vote peers verdict.Refused (votersCheck v) (λ h. cc (half-votes v h))
 
-  pub gathered-joint : (c : JointConfig) → plainJointIndex c (gathered question.Index peers) ≡ jointIndex c peers
-  unfolding plainJointIndex jointIndex
+  pub gathered-joint : (c : JointConfig) → plainJointCommittedIndex c (gathered question.Index peers) ≡ jointCommittedIndex c peers
+  unfolding plainJointCommittedIndex jointCommittedIndex
   gathered-joint c = answers-alike question.Index peers answer.Refused (configCheck c) (λ h. cc (half-acks (c .incoming) h, half-acks (c .outgoing) h))
 
-  pub gathered-verdict : (c : JointConfig) → plainJointVerdict c (gathered question.Vote peers) ≡ jointVerdict c peers
-  unfolding plainJointVerdict jointVerdict
+  pub gathered-verdict : (c : JointConfig) → plainJointVoteResult c (gathered question.Vote peers) ≡ jointVoteResult c peers
+  unfolding plainJointVoteResult jointVoteResult
   gathered-verdict c = answers-alike question.Vote peers verdict.Refused (configCheck c) (λ h. cc (half-votes (c .incoming) h, half-votes (c .outgoing) h))

@@ -33,24 +33,24 @@ abbrev pub configCheck : JointConfig → Check
 configCheck c = bothChecks (votersCheck (c .incoming)) (votersCheck (c .outgoing))
 
 -- THE PROMISE of `committed_index`. 01, Joint: "The index is the smaller of the two, the flag is true only if both are."
-unfoldable pub jointIndex : JointConfig → List Peer → Committed
-jointIndex c peers = indexUnless (bothChecks (configCheck c) (rowsCheck peers)) (joined (halfIndex (acksOf peers (c .incoming))) (halfIndex (acksOf peers (c .outgoing))))
+unfoldable pub jointCommittedIndex : JointConfig → List Peer → Committed
+jointCommittedIndex c peers = indexUnless (bothChecks (configCheck c) (rowsCheck peers)) (joined (halfIndex (acksOf peers (c .incoming))) (halfIndex (acksOf peers (c .outgoing))))
 
 -- THE PROMISE of `vote_result`. 01, Joint: "Won if Won in both, Lost if Lost in either, else Pending."
-unfoldable pub jointVerdict : JointConfig → List Peer → Verdict
-jointVerdict c peers = resultUnless (bothChecks (configCheck c) (rowsCheck peers)) (jointResult (resultOf (votesOf peers (c .incoming))) (resultOf (votesOf peers (c .outgoing))))
+unfoldable pub jointVoteResult : JointConfig → List Peer → Verdict
+jointVoteResult c peers = resultUnless (bothChecks (configCheck c) (rowsCheck peers)) (jointResult (resultOf (votesOf peers (c .incoming))) (resultOf (votesOf peers (c .outgoing))))
 
 -- THE PROMISE of `committed_index_of`: as `committed_index`, "over plain values".
-unfoldable pub plainJointIndex : JointConfig → Rows → Committed
-plainJointIndex c r = indexUnless (bothChecks (configCheck c) (plainCheck r)) (joined (halfIndex (plainValues r (c .incoming))) (halfIndex (plainValues r (c .outgoing))))
+unfoldable pub plainJointCommittedIndex : JointConfig → Rows → Committed
+plainJointCommittedIndex c r = indexUnless (bothChecks (configCheck c) (plainCheck r)) (joined (halfIndex (plainValues r (c .incoming))) (halfIndex (plainValues r (c .outgoing))))
 
 -- THE PROMISE of `vote_result_of`: as `vote_result`, "over plain values".
-unfoldable pub plainJointVerdict : JointConfig → Rows → Verdict
-plainJointVerdict c r = resultUnless (bothChecks (configCheck c) (plainCheck r)) (jointResult (numbersResult (plainValues r (c .incoming))) (numbersResult (plainValues r (c .outgoing))))
+unfoldable pub plainJointVoteResult : JointConfig → Rows → Verdict
+plainJointVoteResult c r = resultUnless (bothChecks (configCheck c) (plainCheck r)) (jointResult (numbersResult (plainValues r (c .incoming))) (numbersResult (plainValues r (c .outgoing))))
 
 -- THE PROMISE of `is_singleton`. 01, Joint, names "`is_singleton`, `contains`, `clear`" and leaves them to the code: one incoming voter, and nobody outgoing.
-abbrev pub singleton : JointConfig → YesOrNo
-singleton c = isUnless (configCheck c) (eqb (c .outgoing .count) 0 && eqb (c .incoming .count) 1)
+abbrev pub isSingleton : JointConfig → YesOrNo
+isSingleton c = isUnless (configCheck c) (eqb (c .outgoing .count) 0 && eqb (c .incoming .count) 1)
 
 -- THE PROMISE of `contains`, named there too ("`is_singleton`, `contains`, `clear`"): a voter of either half.
 abbrev pub containsOf : JointConfig → ℕ → YesOrNo
@@ -66,17 +66,17 @@ unfoldable pub bothIds : JointConfig → List ℕ
 bothIds c = rising (falling (votersOf (c .incoming) ++ votersOf (c .outgoing)))
 
 -- A list of ids as the answer holds it, an "array with a count", unused words 0; a refusal lists none.
-abbrev pub listed : Check → List ℕ → Ids
-listed k ids = record { check = k; ids = padded idLimit ids; count = length ids }
+abbrev pub idList : Check → List ℕ → Ids
+idList k ids = record { check = k; ids = padded idLimit ids; count = length ids }
 
 -- One step of listing: the id after those listed, where it is not there yet. For "each once".
 abbrev pub withId : Ids → ℕ → Ids
 withId s id = cond (has id (take (s .count) (s .ids))) s (record { check = s .check; ids = set (s .ids) (s .count) id; count = s .count + 1 })
 
 -- Document 01's values for each case of the answer: a refusal "returns its number alone", with no id; else the ids.
-abbrev pub listedUnless : Check → List ℕ → Ids
-listedUnless k ids = unless (λ n. listed (check.Refused n) []) k (listed check.Fine ids)
+abbrev pub idListUnless : Check → List ℕ → Ids
+idListUnless k ids = unless (λ n. idList (check.Refused n) []) k (idList check.Fine ids)
 
 -- THE PROMISE of `ids`. 01, Joint: "the ids of both, each once. We list ids in rising order".
-abbrev pub idsAnswer : JointConfig → Ids
-idsAnswer c = listedUnless (configCheck c) (bothIds c)
+abbrev pub jointIds : JointConfig → Ids
+jointIds c = idListUnless (configCheck c) (bothIds c)

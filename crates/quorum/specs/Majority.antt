@@ -52,9 +52,9 @@ abbrev pub plainValues : Rows → Voters → List ℕ
 plainValues r v = map (valueIn (idsOf r) (valuesOf r)) (votersOf v)
 
 -- THE PROMISE of `committed_index_of`: as `committed_index`, "over plain values".
-unfoldable pub plainIndex : Voters → Rows → Committed
-plainIndex v r = indexUnless (bothChecks (votersCheck v) (plainCheck r)) (halfIndex (plainValues r v))
+unfoldable pub plainCommittedIndex : Voters → Rows → Committed
+plainCommittedIndex v r = indexUnless (bothChecks (votersCheck v) (plainCheck r)) (halfIndex (plainValues r v))
 
 -- THE PROMISE of `vote_result_of`: as `vote_result`, "over plain values".
-unfoldable pub plainResult : Voters → Rows → Verdict
-plainResult v r = resultUnless (bothChecks (votersCheck v) (plainCheck r)) (numbersResult (plainValues r v))
+unfoldable pub plainVoteResult : Voters → Rows → Verdict
+plainVoteResult v r = resultUnless (bothChecks (votersCheck v) (plainCheck r)) (numbersResult (plainValues r v))

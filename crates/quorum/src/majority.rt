@@ -11,7 +11,7 @@ use units::refusal::BROKEN_SET;
 use units::words::copy_at;
 ghost use mathlib.Core.Path.{_≡_};
 ghost use Rattle.quorum.specs.Voters.{votersCheck, setOf, noVoters, made};
-ghost use Rattle.quorum.specs.Majority.{committedIndex, voteResult, plainIndex, plainResult};
+ghost use Rattle.quorum.specs.Majority.{committedIndex, voteResult, plainCommittedIndex, plainVoteResult};
 
 // The voters: the first `count` ids, each once.
 pub struct Voters {
@@ -86,7 +86,7 @@ pub fn ids_checked(ids: &[u64]) -> Check
 
 // How far a majority has acknowledged, over gathered rows: the core of `committed_index`.
 pub fn committed_index_of(voters: Voters, rows: Rows) -> Committed
-    ensures { λ r. ⌜ r ≡ plainIndex voters rows ⌝ }
+    ensures { λ r. ⌜ r ≡ plainCommittedIndex voters rows ⌝ }
 {
     let check = voters.checked().and(rows.checked());
     let Check::Fine = check else {
@@ -101,7 +101,7 @@ pub fn committed_index_of(voters: Voters, rows: Rows) -> Committed
 
 // How the vote stands, over gathered rows: the core of `vote_result`.
 pub fn vote_result_of(voters: Voters, rows: Rows) -> Verdict
-    ensures { λ r. ⌜ r ≡ plainResult voters rows ⌝ }
+    ensures { λ r. ⌜ r ≡ plainVoteResult voters rows ⌝ }
 {
     let check = voters.checked().and(rows.checked());
     let Check::Fine = check else {

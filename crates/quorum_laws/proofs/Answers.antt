@@ -21,7 +21,7 @@ use Rattle.quorum.specs.Voters.{votersOf, votersCheck}
 use Rattle.quorum.specs.Votes.{resultOf, jointResult}
 use Rattle.quorum.specs.Half.{halfIndex, joined}
 use Rattle.quorum.specs.Majority.{indexUnless, resultUnless, acksOf, votesOf, committedIndex, voteResult, matchIndex}
-use Rattle.quorum.specs.Joint.{oneSet, configCheck, jointIndex, jointVerdict, singleton, containsOf, bothIds, listedUnless, idsAnswer}
+use Rattle.quorum.specs.Joint.{oneSet, configCheck, jointCommittedIndex, jointVoteResult, isSingleton, containsOf, bothIds, idListUnless, jointIds}
 use Rattle.quorum.specs.declared.Committed.the-variants as answer
 use Rattle.quorum.specs.declared.Verdict.the-variants as verdict
 use Rattle.quorum.specs.declared.VoteResult.{VoteResult}
@@ -124,8 +124,8 @@ either-of h k = (⊎-map (h .0) (k .0), ⊎-map (h .1) (k .1))
 
 module _ (c : JointConfig) (peers : List Peer) where
   pub joint-index-answer : WordRows peers → (n : ℕ) (b : Bool)
-      → (jointIndex c peers ≡ answer.At (indexOf n) b) ↔ (JointWhole c peers × (JointCommits (acksOf peers (c .incoming)) (acksOf peers (c .outgoing)) n × ((b ≡ true) ↔ NoVoters c)))
-  unfolding jointIndex
+      → (jointCommittedIndex c peers ≡ answer.At (indexOf n) b) ↔ (JointWhole c peers × (JointCommits (acksOf peers (c .incoming)) (acksOf peers (c .outgoing)) n × ((b ≡ true) ↔ NoVoters c)))
+  unfolding jointCommittedIndex
   joint-index-answer w n b =
       Iff·trans (at-exactly-if _ _ n b)
       (Iff·and Iff·rfl
@@ -135,12 +135,12 @@ module _ (c : JointConfig) (peers : List Peer) where
       same-right : {A B C : Type 0} → B ↔ C → (A ↔ B) ↔ (A ↔ C)
       same-right e = ((λ f. Iff·trans f e), (λ f. Iff·trans f (Iff·symm e)))
 
-  pub joint-index-refused : (n : ℕ) → (jointIndex c peers ≡ answer.Refused n) ↔ ((¬ JointWhole c peers) × (n ≡ brokenSet))
-  unfolding jointIndex
+  pub joint-index-refused : (n : ℕ) → (jointCommittedIndex c peers ≡ answer.Refused n) ↔ ((¬ JointWhole c peers) × (n ≡ brokenSet))
+  unfolding jointCommittedIndex
   joint-index-refused n = index-refuses _ _ (with-rows-twelve (configCheck c) peers (config-twelve c)) n
 
-  pub joint-vote-answer : (r : VoteResult) → (jointVerdict c peers ≡ verdict.Stands r) ↔ (JointWhole c peers × (jointResult (resultOf (votesOf peers (c .incoming))) (resultOf (votesOf peers (c .outgoing))) ≡ r))
-  unfolding jointVerdict
+  pub joint-vote-answer : (r : VoteResult) → (jointVoteResult c peers ≡ verdict.Stands r) ↔ (JointWhole c peers × (jointResult (resultOf (votesOf peers (c .incoming))) (resultOf (votesOf peers (c .outgoing))) ≡ r))
+  unfolding jointVoteResult
   joint-vote-answer r = stands-exactly-if _ _ r
 
   joint-won : (jointResult (resultOf (votesOf peers (c .incoming))) (resultOf (votesOf peers (c .outgoing))) ≡ result.Won) ↔ JointWins c peers
@@ -149,17 +149,17 @@ module _ (c : JointConfig) (peers : List Peer) where
   joint-lost : (jointResult (resultOf (votesOf peers (c .incoming))) (resultOf (votesOf peers (c .outgoing))) ≡ result.Lost) ↔ JointLoses c peers
   joint-lost = Iff·trans (either-lost _ _) (either-of (half-lost (votesOf peers (c .incoming))) (half-lost (votesOf peers (c .outgoing))))
 
-  pub joint-won-answer : (jointVerdict c peers ≡ verdict.Stands result.Won) ↔ (JointWhole c peers × JointWins c peers)
+  pub joint-won-answer : (jointVoteResult c peers ≡ verdict.Stands result.Won) ↔ (JointWhole c peers × JointWins c peers)
   joint-won-answer = Iff·trans (joint-vote-answer result.Won) (Iff·and Iff·rfl joint-won)
 
-  pub joint-lost-answer : (jointVerdict c peers ≡ verdict.Stands result.Lost) ↔ (JointWhole c peers × JointLoses c peers)
+  pub joint-lost-answer : (jointVoteResult c peers ≡ verdict.Stands result.Lost) ↔ (JointWhole c peers × JointLoses c peers)
   joint-lost-answer = Iff·trans (joint-vote-answer result.Lost) (Iff·and Iff·rfl joint-lost)
 
-  pub joint-pending-answer : (jointVerdict c peers ≡ verdict.Stands result.Pending) ↔ (JointWhole c peers × ((¬ JointWins c peers) × (¬ JointLoses c peers)))
+  pub joint-pending-answer : (jointVoteResult c peers ≡ verdict.Stands result.Pending) ↔ (JointWhole c peers × ((¬ JointWins c peers) × (¬ JointLoses c peers)))
   joint-pending-answer = Iff·trans (joint-vote-answer result.Pending) (Iff·and Iff·rfl (pending-if-neither _ joint-won joint-lost))
 
-  pub joint-vote-refused : (n : ℕ) → (jointVerdict c peers ≡ verdict.Refused n) ↔ ((¬ JointWhole c peers) × (n ≡ brokenSet))
-  unfolding jointVerdict
+  pub joint-vote-refused : (n : ℕ) → (jointVoteResult c peers ≡ verdict.Refused n) ↔ ((¬ JointWhole c peers) × (n ≡ brokenSet))
+  unfolding jointVoteResult
   joint-vote-refused n = result-refuses _ _ (with-rows-twelve (configCheck c) peers (config-twelve c)) n
 
 -- A configuration of one set answers as the set does.
@@ -176,12 +176,12 @@ one-set-check : (v : Voters) → configCheck (oneSet v) ≡ votersCheck v
 one-set-check v = ap (bothChecks (votersCheck v)) empty-fine ∙ then-fine (votersCheck v)
 
 module _ (v : Voters) (peers : List Peer) where
-  pub one-set-index : WordRows peers → jointIndex (oneSet v) peers ≡ committedIndex v peers
-  unfolding jointIndex committedIndex
+  pub one-set-index : WordRows peers → jointCommittedIndex (oneSet v) peers ≡ committedIndex v peers
+  unfolding jointCommittedIndex committedIndex
   one-set-index w = cc (one-set-check v, joined-one-set (acksOf peers v) (index-fits (acksOf peers v) (read-words peers w (votersOf v))))
 
-  pub one-set-vote : jointVerdict (oneSet v) peers ≡ voteResult v peers
-  unfolding jointVerdict voteResult
+  pub one-set-vote : jointVoteResult (oneSet v) peers ≡ voteResult v peers
+  unfolding jointVoteResult voteResult
   one-set-vote = cc (one-set-check v, then-won (resultOf (votesOf peers v)))
 
 -- The other questions of a configuration read no rows, and refuse where a half is broken.
@@ -189,16 +189,16 @@ is-refuses : (b : Bool) (k : Check) → OnlyTwelve k → (n : ℕ) → (isUnless
 is-refuses b = refused-by-twelve yes-or-no.Refused (λ m n e. cc) (λ n e. cc)
 
 -- (A list of ids stands beside its check.)
-list-check : (k : Check) (ids : List ℕ) → listedUnless k ids .check ≡ unless check.Refused k check.Fine
+list-check : (k : Check) (ids : List ℕ) → idListUnless k ids .check ≡ unless check.Refused k check.Fine
 list-check check.Fine ids = refl
 list-check (check.Refused n) ids = refl
 
 module _ (c : JointConfig) where
-  pub singleton-refused : (n : ℕ) → (singleton c ≡ yes-or-no.Refused n) ↔ ((¬ (configCheck c ≡ check.Fine)) × (n ≡ brokenSet))
+  pub singleton-refused : (n : ℕ) → (isSingleton c ≡ yes-or-no.Refused n) ↔ ((¬ (configCheck c ≡ check.Fine)) × (n ≡ brokenSet))
   singleton-refused n = is-refuses _ (configCheck c) (config-twelve c) n
 
   pub contains-refused : (id n : ℕ) → (containsOf c id ≡ yes-or-no.Refused n) ↔ ((¬ (configCheck c ≡ check.Fine)) × (n ≡ brokenSet))
   contains-refused id n = is-refuses _ (configCheck c) (config-twelve c) n
 
-  pub ids-refused : (n : ℕ) → (idsAnswer c .check ≡ check.Refused n) ↔ ((¬ (configCheck c ≡ check.Fine)) × (n ≡ brokenSet))
+  pub ids-refused : (n : ℕ) → (jointIds c .check ≡ check.Refused n) ↔ ((¬ (configCheck c ≡ check.Fine)) × (n ≡ brokenSet))
   ids-refused n = rw (list-check (configCheck c) (bothIds c)) (refused-by-twelve check.Refused (λ m n e. cc) (λ n e. cc) (configCheck c) (config-twelve c) n)

@@ -20,7 +20,7 @@ use Rattle.rules.proofs.Majority.{reached-hit, Capped, Falls, falls-falling, le
 use Rattle.quorum.specs.Limits.{idLimit}
 use Rattle.quorum.specs.Ids.{has}
 use Rattle.quorum.specs.Voters.{votersOf}
-use Rattle.quorum.specs.Joint.{configCheck, rising, bothIds, idsAnswer, containsOf}
+use Rattle.quorum.specs.Joint.{configCheck, rising, bothIds, jointIds, containsOf}
 use Rattle.quorum.specs.declared.joint.JointConfig.{JointConfig}
 use Rattle.quorum_laws.specs.IdsRule.{Rising, ListsBoth}
 use Rattle.quorum_laws.proofs.Members.{has-append, has-falling}
@@ -137,7 +137,7 @@ length-both-ids c e =
 
 -- So the answer holds all of it, and `contains` says yes to those ids.
 module _ (c : JointConfig) (fine : configCheck c ≡ check.Fine) where
-  pub ids-listed : take (idsAnswer c .count) (idsAnswer c .ids) ≡ bothIds c
+  pub ids-listed : take (jointIds c .count) (jointIds c .ids) ≡ bothIds c
   ids-listed = rw fine (take-padded idLimit (bothIds c) (length-both-ids c fine))
 
   pub contains-listed : (id : ℕ) → containsOf c id ≡ yes-or-no.Is (has id (bothIds c))

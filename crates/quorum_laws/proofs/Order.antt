@@ -20,7 +20,7 @@ use Rattle.quorum.specs.Voters.{votersOf, votersCheck}
 use Rattle.quorum.specs.Votes.{resultOf}
 use Rattle.quorum.specs.Half.{halfIndex}
 use Rattle.quorum.specs.Majority.{acksOf, votesOf, committedIndex, voteResult}
-use Rattle.quorum.specs.Joint.{configCheck, jointIndex, jointVerdict}
+use Rattle.quorum.specs.Joint.{configCheck, jointCommittedIndex, jointVoteResult}
 use Rattle.quorum.specs.declared.Committed.the-variants as answer
 use Rattle.quorum.specs.declared.Verdict.the-variants as verdict
 use Rattle.quorum.specs.declared.majority.Voters.{Voters}
@@ -64,12 +64,12 @@ module _ {v w : Voters} (same : SameVoters v w) where
     vote-result-voters = cc (check-voters, result-of-voters)
 
 module _ {c d : JointConfig} (in-same : SameVoters (c .incoming) (d .incoming)) (out-same : SameVoters (c .outgoing) (d .outgoing)) (peers : List Peer) where
-  pub joint-index-voters : jointIndex c peers ≡ jointIndex d peers
-  unfolding jointIndex
+  pub joint-index-voters : jointCommittedIndex c peers ≡ jointCommittedIndex d peers
+  unfolding jointCommittedIndex
   joint-index-voters = cc (check-voters in-same, check-voters out-same, index-of-voters in-same peers, index-of-voters out-same peers)
 
-  pub joint-verdict-voters : jointVerdict c peers ≡ jointVerdict d peers
-  unfolding jointVerdict
+  pub joint-verdict-voters : jointVoteResult c peers ≡ jointVoteResult d peers
+  unfolding jointVoteResult
   joint-verdict-voters = cc (check-voters in-same, check-voters out-same, result-of-voters in-same peers, result-of-voters out-same peers)
 
 -- THE ROWS in another order.
@@ -135,10 +135,10 @@ module _ {peers others : List Peer} (r : Reordered peers others) where
   unfolding voteResult
   vote-result-rows v = answer-rows verdict.Refused (votersCheck v) (λ e. cc (votes-read (votersCheck v) e v))
 
-  pub joint-index-rows : (c : JointConfig) → jointIndex c peers ≡ jointIndex c others
-  unfolding jointIndex
+  pub joint-index-rows : (c : JointConfig) → jointCommittedIndex c peers ≡ jointCommittedIndex c others
+  unfolding jointCommittedIndex
   joint-index-rows c = answer-rows answer.Refused (configCheck c) (λ e. cc (acks-read (configCheck c) e (c .incoming), acks-read (configCheck c) e (c .outgoing)))
 
-  pub joint-verdict-rows : (c : JointConfig) → jointVerdict c peers ≡ jointVerdict c others
-  unfolding jointVerdict
+  pub joint-verdict-rows : (c : JointConfig) → jointVoteResult c peers ≡ jointVoteResult c others
+  unfolding jointVoteResult
   joint-verdict-rows c = answer-rows verdict.Refused (configCheck c) (λ e. cc (votes-read (configCheck c) e (c .incoming), votes-read (configCheck c) e (c .outgoing)))

@@ -75,20 +75,20 @@ abbrev pub WellFormed : Message → Type 0
 WellFormed m = (misnumbered (m .run) (m .idx) ≡ false) × (zeroTermIn (m .run) ≡ false)
 
 -- What comes of a message: the answer, which "names the message's last index", and what "the follower then holds".
-pub record Outcome : Type 0 where
+pub record Reception : Type 0 where
   pub answer : Appended
   pub follower : Follower
 
 -- A way to take a message in. The promise is stated of any, and proved of the engine's: "An engine that turns everything down .. has to be caught by these promises."
 abbrev pub Receiver : Type 0
-Receiver = Follower → Message → Outcome
+Receiver = Follower → Message → Reception
 
 -- The answer that `maybe_append` promises: "conflict and idx + count", or the refusal.
 abbrev pub answer-to : Follower → Message → Appended
 answer-to f m = maybeAppend (f .log) (f .settled) (f .pending) (m .idx) (m .term) (m .commit) (m .run)
 
 -- An answer, and the follower after it: its pending store is the one that `maybe_append` promises beside that answer, where "every other word stays".
-abbrev pub outcome-of : Follower → Message → Appended → Outcome
+abbrev pub outcome-of : Follower → Message → Appended → Reception
 outcome-of f m a = record { answer = a; follower = record { log = logAppended a (f .log); settled = f .settled; pending = maybeAppendStore a (f .pending) (m .idx) (m .run) } }
 
 -- THE ENGINE'S way to take a message in: what `maybe_append` promises. Demand 3 is proved of it.

@@ -13,7 +13,7 @@ use Rattle.raft_log.specs.declared.Log.{Log}
 use Rattle.raft_log.specs.declared.Appended.the-variants as appended
 use Rattle.raft_log.specs.State.{broken}
 use Rattle.log_laws.specs.Keep.{NonzeroTerms}
-use Rattle.two_ends.specs.Follower.{Follower, held, committed, Message, last-index, WellFormed, Outcome, Receiver, HasRoom, Event, arrives, between, follow, Made}
+use Rattle.two_ends.specs.Follower.{Follower, held, committed, Message, last-index, WellFormed, Reception, Receiver, HasRoom, Event, arrives, between, follow, Made}
 use Rattle.two_ends.specs.Leader.{CutFrom}
 
 -- "At the start, against all that the list ever comes to hold, ..
@@ -43,7 +43,7 @@ abbrev pub HoldsPrevious : Follower → Message → Type 0
 HoldsPrevious f m = Holds (held f) (m .idx) × (term-of (held f) (m .idx) ≡ m .term)
 
 -- The message is accepted, and the answer names the index k: "Each acceptance names the message's last index".
-abbrev pub Accepts : Outcome → ℕ → Type 0
+abbrev pub Accepts : Reception → ℕ → Type 0
 Accepts o k = (conflict : Index) × (named : Index) × (after : Log) × (o .answer ≡ appended.Done conflict named after) × (named .0 ≡ k)
 
 -- What is promised of a follower that is `now`, whatever the message m; the request's words stand beside the parts.

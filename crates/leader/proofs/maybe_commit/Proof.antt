@@ -24,7 +24,7 @@ use denote.Triple.Entry.{alive}
 use denote.Triple.Table.{framed, cited}
 use Rattle.units.proofs.Term as Te
 use Rattle.units.proofs.Term.Laws as Te′
-use Rattle.quorum.specs.Joint.{jointIndex}
+use Rattle.quorum.specs.Joint.{jointCommittedIndex}
 use Rattle.quorum.specs.declared.Committed.{Committed}
 use Rattle.units.proofs.ByValue.{ByValue, of-struct, of-enum, fits-at, made}
 use Rattle.units.proofs.Exact.{Promise, always, Exact, calls, Params, valued, shared, Walk, ends, meets}
@@ -59,7 +59,7 @@ decisions = of-enum De.the-type De′.the-laws tt De′.the-plain De′.the-copy
 
 -- ---- what the two callees answer, and what is promised
 abbrev indexed : Promise
-indexed = asked configs indexes jointIndex
+indexed = asked configs indexes jointCommittedIndex
 
 abbrev decided : Promise
 decided = always found.signature (λ κs args. commitFound (args .0) (now (args .1 .0)) (now (args .1 .1 .0)) (args .1 .1 .1 .0 .0) (args .1 .1 .1 .1 .0))
@@ -123,7 +123,7 @@ module _ {M : Type 1} (𝓤 : URA M) (H : Heap 𝓤) (A : Atoms 𝓤) (W : Given
         use2 W (raw (token κs qs)) (together κs qs) $ by ! (ends 𝓤 H A promised params W κs qs b (l, (x, (y, (t, (c, (p, tt)))))) answer _ refl (decisions .makes 𝓤 H A W answer _ at-a)))))))))))))
       where
         index : Committed
-        index = jointIndex c (now p)
+        index = jointCommittedIndex c (now p)
 
         answer : Decided
         answer = commitFound l (now x) (now y) (t .0) index

@@ -2,7 +2,7 @@
 use borrow.Author.Needs.{needs}
 use mathlib.Core.Path.{_≡_}
 use Rattle.units.proofs.Checks.{checks-made}
-use Rattle.quorum.specs.Joint.{jointIndex}
+use Rattle.quorum.specs.Joint.{jointCommittedIndex}
 use Rattle.exports.proofs.Asked.{setsCheck, no-index, incoming-few, outgoing-few, sets-index}
 use Rattle.exports.proofs.halves.joint_index.Statement.{statement}
 use Rattle.exports.proofs.halves.joint_index.Tie as tie
@@ -38,7 +38,7 @@ refusal-requires : tie.Need-refusal-requires
 refusal-requires c κs = search needs
 
 returns : tie.Need-returns
-unfolding jointIndex setsCheck
+unfolding jointCommittedIndex setsCheck
 returns c = no-index (made (c .before .before .before)) (c .before .enum-told2 .given .1) (c .refusal .ensures) _
 
 half-index-requires : tie.Need-half-index-requires

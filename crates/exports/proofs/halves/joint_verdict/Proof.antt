@@ -2,7 +2,7 @@
 use borrow.Author.Needs.{needs}
 use mathlib.Core.Path.{_≡_}
 use Rattle.units.proofs.Checks.{checks-made}
-use Rattle.quorum.specs.Joint.{jointVerdict}
+use Rattle.quorum.specs.Joint.{jointVoteResult}
 use Rattle.exports.proofs.Asked.{setsCheck, no-result, incoming-few, outgoing-few, sets-result}
 use Rattle.exports.proofs.halves.joint_verdict.Statement.{statement}
 use Rattle.exports.proofs.halves.joint_verdict.Tie as tie
@@ -38,7 +38,7 @@ refusal-requires : tie.Need-refusal-requires
 refusal-requires c κs = search needs
 
 returns : tie.Need-returns
-unfolding jointVerdict setsCheck
+unfolding jointVoteResult setsCheck
 returns c = no-result (made (c .before .before .before)) (c .before .enum-told2 .given .1) (c .refusal .ensures) _
 
 half-result-requires : tie.Need-half-result-requires

@@ -2,7 +2,7 @@
 use borrow.Author.Needs.{needs}
 use mathlib.Core.Path.{ap}
 use native.Mathlib.Omega.{arith}
-use Rattle.quorum.specs.Joint.{idsAnswer}
+use Rattle.quorum.specs.Joint.{jointIds}
 use Rattle.exports.proofs.Lengths.{short, long}
 use Rattle.exports.proofs.quorums.joint_ids.Statement.{statement}
 use Rattle.exports.proofs.quorums.joint_ids.Tie as tie
@@ -23,7 +23,7 @@ same-length : tie.Need-same-length
 same-length c = search needs
 
 returns-2 : tie.Need-returns-2
-returns-2 c = long _ _ _ _ (omega arith) (cc (ap idsAnswer (c .before .before .before .before .before .config .ensures)))
+returns-2 c = long _ _ _ _ (omega arith) (cc (ap jointIds (c .before .before .before .before .before .config .ensures)))
 
 pub joint-ids-spec : {M : Type 1} → statement M
 joint-ids-spec =

@@ -2,7 +2,7 @@
 use borrow.Author.Needs.{needs}
 use mathlib.Core.Path.{ap}
 use native.Mathlib.Omega.{arith}
-use Rattle.quorum.specs.Joint.{singleton}
+use Rattle.quorum.specs.Joint.{isSingleton}
 use Rattle.exports.proofs.Lengths.{short, long}
 use Rattle.exports.proofs.quorums.joint_is_singleton.Statement.{statement}
 use Rattle.exports.proofs.quorums.joint_is_singleton.Tie as tie
@@ -23,7 +23,7 @@ same-length : tie.Need-same-length
 same-length c = search needs
 
 returns-2 : tie.Need-returns-2
-returns-2 c = long _ _ _ _ (omega arith) (cc (ap singleton (c .before .before .before .before .before .config .ensures)))
+returns-2 c = long _ _ _ _ (omega arith) (cc (ap isSingleton (c .before .before .before .before .before .config .ensures)))
 
 pub joint-is-singleton-spec : {M : Type 1} → statement M
 joint-is-singleton-spec =

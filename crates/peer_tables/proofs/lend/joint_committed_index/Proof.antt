@@ -1,5 +1,5 @@
 -- `lend::joint_committed_index` meets its contract, by the walk of `Lent.antt`: what it asks is `quorum::joint::committed_index`.
-use Rattle.quorum.specs.Joint.{jointIndex}
+use Rattle.quorum.specs.Joint.{jointCommittedIndex}
 use Rattle.quorum.proofs.OverRows.{configs, indexes}
 use Rattle.quorum.proofs.joint.committed_index.Symbol as asked-def
 use Rattle.quorum.proofs.joint.committed_index.Met as asked-thm
@@ -9,7 +9,7 @@ use Rattle.peer_tables.proofs.lend.joint_committed_index.Statement as s
 use Rattle.peer_tables.proofs.lend.joint_committed_index.Code as code
 
 abbrev this : lent.Call
-this = record { config = configs; answer = indexes; callee = asked-def.name; promised = jointIndex }
+this = record { config = configs; answer = indexes; callee = asked-def.name; promised = jointCommittedIndex }
 
 pub joint-committed-index-spec : {M : Type 1} → stated.statement M
 unfolding code.routine

@@ -1,5 +1,5 @@
 -- `lend::joint_vote_result` meets its contract, by the walk of `Lent.antt`: what it asks is `quorum::joint::vote_result`.
-use Rattle.quorum.specs.Joint.{jointVerdict}
+use Rattle.quorum.specs.Joint.{jointVoteResult}
 use Rattle.quorum.proofs.OverRows.{configs, verdicts}
 use Rattle.quorum.proofs.joint.vote_result.Symbol as asked-def
 use Rattle.quorum.proofs.joint.vote_result.Met as asked-thm
@@ -9,7 +9,7 @@ use Rattle.peer_tables.proofs.lend.joint_vote_result.Statement as state
 use Rattle.peer_tables.proofs.lend.joint_vote_result.Code as code
 
 abbrev this : lent.Call
-this = record { config = configs; answer = verdicts; callee = asked-def.name; promised = jointVerdict }
+this = record { config = configs; answer = verdicts; callee = asked-def.name; promised = jointVoteResult }
 
 pub joint-vote-result-spec : {M : Type 1} → stated.statement M
 unfolding code.routine

@@ -1,5 +1,5 @@
 -- `majority::committed_index` meets its contract, by the walk of `Thin.antt`: the core that it asks is `committed_index_of`.
-use Rattle.quorum.specs.Majority.{plainIndex, committedIndex}
+use Rattle.quorum.specs.Majority.{plainCommittedIndex, committedIndex}
 use Rattle.quorum.specs.declared.rows.Question.the-variants as question
 use Rattle.quorum.proofs.OverRows.{voters, indexes}
 use Rattle.quorum.proofs.Gathered.{gathered-index}
@@ -16,7 +16,7 @@ this = record {
   answer = indexes;
   question = question.Index;
   core = core-def.name;
-  answered = plainIndex;
+  answered = plainCommittedIndex;
   promised = committedIndex;
   law = gathered-index;
 }

@@ -6,7 +6,7 @@ use Rattle.quorum.proofs.majority.committed_index_of.Tie as tie
 use Rattle.units.specs.Refusals.{bothChecks}
 use Rattle.quorum.specs.Rows.{plainCheck}
 use Rattle.quorum.specs.Voters.{votersCheck}
-use Rattle.quorum.specs.Majority.{plainIndex}
+use Rattle.quorum.specs.Majority.{plainCommittedIndex}
 use Rattle.units.proofs.Checks.{checks-made, handed-on}
 use Rattle.quorum.proofs.Checks.{voters-within, Passed, passes, voters-fine, ids-front, values-front}
 use Rattle.quorum.proofs.Answers.{index-refused, index-at}
@@ -40,7 +40,7 @@ refusal-requires : tie.Need-refusal-requires
 refusal-requires c κs = search needs
 
 returns : tie.Need-returns
-unfolding plainIndex
+unfolding plainCommittedIndex
 returns c = index-refused _ _ (c .refusal .result) (handed-on _ _ _ _ (made (c .before .before .before)) (c .before .enum-told2 .given .1) (c .refusal .ensures))
 
 array-share-prefix-ids : tie.Need-array-share-prefix-ids
@@ -59,7 +59,7 @@ committed-index-requires : tie.Need-committed-index-requires
 committed-index-requires c κs = voters-within _ (voters-fine (passed (c .before .before .before .before)))
 
 returns-2 : tie.Need-returns-2
-unfolding plainIndex
+unfolding plainCommittedIndex
 returns-2 c = index-at _ _ (c .committed-index .result) (passed (c .before .before .before .before .before) .fine) (c .committed-index .ensures)
 
 pub committed-index-of-spec : {M : Type 1} → statement M

@@ -1,5 +1,5 @@
 -- `majority::vote_result` meets its contract, by the walk of `Thin.antt`: the core that it asks is `vote_result_of`.
-use Rattle.quorum.specs.Majority.{plainResult, voteResult}
+use Rattle.quorum.specs.Majority.{plainVoteResult, voteResult}
 use Rattle.quorum.specs.declared.rows.Question.the-variants as question
 use Rattle.quorum.proofs.OverRows.{voters, verdicts}
 use Rattle.quorum.proofs.Gathered.{gathered-result}
@@ -16,7 +16,7 @@ this = record {
   answer = verdicts;
   question = question.Vote;
   core = core-def.name;
-  answered = plainResult;
+  answered = plainVoteResult;
   promised = voteResult;
   law = gathered-result;
 }

@@ -6,7 +6,7 @@ use Rattle.quorum.proofs.majority.vote_result_of.Tie as tie
 use Rattle.units.specs.Refusals.{bothChecks}
 use Rattle.quorum.specs.Rows.{plainCheck}
 use Rattle.quorum.specs.Voters.{votersCheck}
-use Rattle.quorum.specs.Majority.{plainResult}
+use Rattle.quorum.specs.Majority.{plainVoteResult}
 use Rattle.units.proofs.Checks.{checks-made, handed-on}
 use Rattle.quorum.proofs.Checks.{voters-within, Passed, passes, voters-fine, ids-front, values-front}
 use Rattle.quorum.proofs.Answers.{result-refused, result-stands}
@@ -40,7 +40,7 @@ refusal-requires : tie.Need-refusal-requires
 refusal-requires c κs = search needs
 
 returns : tie.Need-returns
-unfolding plainResult
+unfolding plainVoteResult
 returns c = result-refused _ _ (c .refusal .result) (handed-on _ _ _ _ (made (c .before .before .before)) (c .before .enum-told2 .given .1) (c .refusal .ensures))
 
 array-share-prefix-ids : tie.Need-array-share-prefix-ids
@@ -59,7 +59,7 @@ vote-result-requires : tie.Need-vote-result-requires
 vote-result-requires c κs = voters-within _ (voters-fine (passed (c .before .before .before .before)))
 
 returns-2 : tie.Need-returns-2
-unfolding plainResult
+unfolding plainVoteResult
 returns-2 c = result-stands _ _ (c .vote-result .result) (passed (c .before .before .before .before .before) .fine) (c .vote-result .ensures)
 
 pub vote-result-of-spec : {M : Type 1} → statement M
