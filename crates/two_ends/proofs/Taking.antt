@@ -28,7 +28,7 @@ use Rattle.log_laws.specs.View.{runEntry, runEntries}
 use Rattle.log_laws.specs.Keep.{NonzeroTerms}
 use Rattle.log_laws.proofs.Views.{view-term}
 use Rattle.log_laws.proofs.Receiving.{taken, step-2-is}
-use Rattle.two_ends.specs.Follower.{Follower, held, committed, Message, last-index, outcome-of, answer-to, engine, alike, HasRoom}
+use Rattle.two_ends.specs.Follower.{Follower, held, committed, Message, last-index, reception-of, answer-to, engine, alike, HasRoom}
 use Rattle.two_ends.specs.Leader.{CutFrom}
 use Rattle.two_ends.specs.TwoEnds.{Premises, HoldsPrevious, Keeps}
 use Rattle.two_ends.proofs.Received.{Received, received}
@@ -77,7 +77,7 @@ module _ (f : Follower) (m : Message) where
     pub got : Received (held f) (m .idx) es (held g)
     pub committed-is : committed g ≡ max (committed f) (min (m .commit) (last-index m))
 
-  took-done : (c k : Index) (a : Log) → answer-to f m ≡ appended.Done c k a → Took (outcome-of f m (appended.Done c k a) .follower)
+  took-done : (c k : Index) (a : Log) → answer-to f m ≡ appended.Done c k a → Took (reception-of f m (appended.Done c k a) .follower)
   unfolding receiver maybeAppend matchRun
   took-done c k a e =
       let t = taken (f .log) (f .settled) (f .pending) (m .idx) (m .term) (m .commit) (m .run) c k a e in
@@ -93,7 +93,7 @@ module _ (f : Follower) (m : Message) where
 
   pub took : (c k : Index) (a : Log) → engine f m .answer ≡ appended.Done c k a → Took (engine f m .follower)
   unfolding engine
-  took c k a e = subst (λ (x : Appended). Took (outcome-of f m x .follower)) (sym e) (took-done c k a e)
+  took c k a e = subst (λ (x : Appended). Took (reception-of f m x .follower)) (sym e) (took-done c k a e)
 
 -- ---- a message of the leader's
 module _ (xs : List Entry) (leader-terms : NonzeroTerms (whole-list xs)) (leader-limit : length xs ≤ indexLimit) (f : Follower) (st : Standing xs f) (m : Message) (cut : CutFrom xs m) where

@@ -16,7 +16,7 @@ use Rattle.raft_log.specs.Run.{misnumbered, zeroTermIn}
 use Rattle.raft_log.specs.Append.{afterMessage, outside, mismatched, cuts, overfull, accepted, decide, matchRun, maybeAppend, maybeAppendStore}
 use Rattle.raft_log.proofs.Appending.{no-done, other-refusal}
 use Rattle.raft_log.proofs.Appending as appending
-use Rattle.two_ends.specs.Follower.{Follower, Message, WellFormed, answer-to, outcome-of, engine, alike}
+use Rattle.two_ends.specs.Follower.{Follower, Message, WellFormed, answer-to, reception-of, engine, alike}
 
 module _ (f : Follower) (m : Message) where
   abbrev n : ℕ
@@ -78,4 +78,4 @@ module _ (f : Follower) (m : Message) where
   -- a refused message changes nothing
   pub refused-unchanged : (s : ℕ) → engine f m .answer ≡ Refused s → engine f m .follower ≡ f
   unfolding engine maybeAppendStore
-  refused-unchanged s e = ap (λ (a : Appended). outcome-of f m a .follower) e
+  refused-unchanged s e = ap (λ (a : Appended). reception-of f m a .follower) e

@@ -88,12 +88,12 @@ abbrev pub answer-to : Follower → Message → Appended
 answer-to f m = maybeAppend (f .log) (f .settled) (f .pending) (m .idx) (m .term) (m .commit) (m .run)
 
 -- An answer, and the follower after it: its pending store is the one that `maybe_append` promises beside that answer, where "every other word stays".
-abbrev pub outcome-of : Follower → Message → Appended → Reception
-outcome-of f m a = record { answer = a; follower = record { log = logAppended a (f .log); settled = f .settled; pending = maybeAppendStore a (f .pending) (m .idx) (m .run) } }
+abbrev pub reception-of : Follower → Message → Appended → Reception
+reception-of f m a = record { answer = a; follower = record { log = logAppended a (f .log); settled = f .settled; pending = maybeAppendStore a (f .pending) (m .idx) (m .run) } }
 
 -- THE ENGINE'S way to take a message in: what `maybe_append` promises. Demand 3 is proved of it.
 unfoldable pub engine : Receiver
-engine f m = outcome-of f m (answer-to f m)
+engine f m = reception-of f m (answer-to f m)
 
 -- How many of the message's records come before "the first run record whose term differs" from what is held. For `HasRoom`.
 abbrev pub alike : Follower → Message → ℕ

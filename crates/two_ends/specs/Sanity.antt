@@ -16,7 +16,7 @@ use Rattle.raft_log.specs.Run.{misnumbered, zeroTermIn}
 use Rattle.raft_log.specs.Append.{withCommitted, cutIf, commitUp, mismatched, decide}
 use Rattle.raft_log.specs.Commit.{withPersisted}
 use Rattle.raft_log.specs.Setup.{fresh}
-use Rattle.two_ends.specs.Follower.{Follower, committed, Message, Receiver, answer-to, outcome-of, alike}
+use Rattle.two_ends.specs.Follower.{Follower, committed, Message, Receiver, answer-to, reception-of, alike}
 use Rattle.two_ends.specs.Leader.{cut}
 
 -- ---- two ends
@@ -78,42 +78,42 @@ accepting other (Refused number) = Refused number
 
 -- "An engine that turns everything down ..
 abbrev pub refuses-all : Receiver
-refuses-all f m = outcome-of f m (Refused mismatch)
+refuses-all f m = reception-of f m (Refused mismatch)
 
 -- .. or says yes and stores nothing, has to be caught by these promises."
 abbrev pub stores-nothing : Receiver
-stores-nothing f m = outcome-of f m (accepting (λ conflict last after. Done (indexOf 0) last (f .log)) (answer-to f m))
+stores-nothing f m = reception-of f m (accepting (λ conflict last after. Done (indexOf 0) last (f .log)) (answer-to f m))
 
 -- 01: "one that cuts on every message": after idx, also where its run matches.
 abbrev pub cuts-always : Receiver
 cuts-always f m =
-    outcome-of f m (accepting (λ conflict last after. Done (indexOf (m .idx + 1)) last (commitUp (cutIf true (f .log) (m .idx + 1) (last .0)) (m .commit) (last .0))) (answer-to f m))
+    reception-of f m (accepting (λ conflict last after. Done (indexOf (m .idx + 1)) last (commitUp (cutIf true (f .log) (m .idx + 1) (last .0)) (m .commit) (last .0))) (answer-to f m))
 
 -- 01, tempting mistakes: "committing to `commit` without the minimum".
 abbrev pub commits-blindly : Receiver
-commits-blindly f m = outcome-of f m (accepting (λ conflict last after. Done conflict last (withCommitted after (max (committed f) (m .commit)))) (answer-to f m))
+commits-blindly f m = reception-of f m (accepting (λ conflict last after. Done conflict last (withCommitted after (max (committed f) (m .commit)))) (answer-to f m))
 
 -- 01, tempting mistakes: "cutting everything after idx when the run already matches": only the run's records stay.
 abbrev pub cuts-behind-match : Receiver
 cuts-behind-match f m =
-    outcome-of f m (accepting (λ conflict last after. Done conflict last (cutIf (eqb (alike f m) (runCount (m .run))) after (last .0 + 1) (last .0))) (answer-to f m))
+    reception-of f m (accepting (λ conflict last after. Done conflict last (cutIf (eqb (alike f m) (runCount (m .run))) after (last .0 + 1) (last .0))) (answer-to f m))
 
 -- 01, tempting mistakes: "taking term 0 as "absent, so no match" in ordinary lookups": the previous record is then another (5).
 abbrev pub zero-is-absent : Receiver
-zero-is-absent f m = outcome-of f m (accepting (λ conflict last after. cond (eqb (m .term) 0) (Refused mismatch) (Done conflict last after)) (answer-to f m))
+zero-is-absent f m = reception-of f m (accepting (λ conflict last after. cond (eqb (m .term) 0) (Refused mismatch) (Done conflict last after)) (answer-to f m))
 
 -- 01, tempting mistakes: "lowering persisted when there is no conflict": to idx, as if the first record were one.
 abbrev pub lowers-persisted : Receiver
-lowers-persisted f m = outcome-of f m (accepting (λ conflict last after. Done conflict last (withPersisted after (min (f .log .persisted .0) (m .idx)))) (answer-to f m))
+lowers-persisted f m = reception-of f m (accepting (λ conflict last after. Done conflict last (withPersisted after (min (f .log .persisted .0) (m .idx)))) (answer-to f m))
 
 -- Leaves persisted where it was on a conflict, without "persisted becomes the smaller of itself and conflict - 1".
 abbrev pub persisted-stays : Receiver
-persisted-stays f m = outcome-of f m (accepting (λ conflict last after. Done conflict last (withPersisted after (f .log .persisted .0))) (answer-to f m))
+persisted-stays f m = reception-of f m (accepting (λ conflict last after. Done conflict last (withPersisted after (f .log .persisted .0))) (answer-to f m))
 
 -- Does not give 4, "previous term 0 and idx outside [start, last]": the table of `maybeAppend` without that line.
 abbrev pub no-refusal-4 : Receiver
 no-refusal-4 f m =
-    outcome-of f m
+    reception-of f m
     (cond (broken (f .log) (f .settled) (f .pending)) (Refused brokenState)
     (cond (misnumbered (m .run) (m .idx)) (Refused misnumberedRun)
     (cond (zeroTermIn (m .run)) (Refused zeroTerm)
