@@ -44,7 +44,7 @@ use Rattle.quorum.specs.Ids.{fewDistinct}
 use Rattle.quorum.specs.Rows.{idOf, rowsCheck}
 use Rattle.quorum.specs.Voters.{votersOf, votersCheck, setOf}
 use Rattle.quorum.specs.Majority.{committedIndex, voteResult}
-use Rattle.quorum.specs.Joint.{configCheck, listed, jointCommittedIndex, jointVoteResult, isSingleton, containsOf, jointIds}
+use Rattle.quorum.specs.Joint.{configCheck, idList, jointCommittedIndex, jointVoteResult, isSingleton, containsOf, jointIds}
 use Rattle.quorum.specs.declared.Committed.the-variants as committed
 use Rattle.quorum.specs.declared.Verdict.the-variants as verdict
 use Rattle.quorum.specs.declared.joint.JointConfig.{JointConfig}
@@ -284,7 +284,7 @@ module _ (incoming outgoing answer : List ℕ) where
   pub joint-ids-tells : Tells check.Refused (jointIds (configFrom incoming outgoing) .check) (answer ∷ []) (jointIdsLeaves incoming outgoing answer)
   joint-ids-tells =
       behind _ _
-      (either-answer (λ n. listed (check.Refused n) []) (λ said. Tells check.Refused (said .check) (answer ∷ []) (idsLeaves said answer)) (configCheck (configFrom incoming outgoing))
+      (either-answer (λ n. idList (check.Refused n) []) (λ said. Tells check.Refused (said .check) (answer ∷ []) (idsLeaves said answer)) (configCheck (configFrom incoming outgoing))
       (λ _. answers (λ n e. cc))
       (λ m e. refuses (config-numbered (configFrom incoming outgoing) m e)))
 
