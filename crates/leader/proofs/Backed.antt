@@ -1,7 +1,7 @@
 -- What the leader's commit step amounts to: it commits only what the paper's rule allows, answers no only where the joint index is not such a one, and refuses exactly by 1, then 12.
 use Prim.Native.Nat.{ℕ}
 use mathlib.Core.Path.{_≡_, refl, sym, ap, subst, _∙_}
-use mathlib.Core.Bool.{Bool, true, false, cond}
+use mathlib.Core.Bool.{Bool, true, false, cond, and-eq-true-iff}
 use mathlib.Core.List.{List}
 use mathlib.Core.Logic.{_⊎_, inl, inr, ⊎-map}
 use native.Mathlib.Omega.{arith}
@@ -29,7 +29,6 @@ use Rattle.raft_log.specs.Commit.{mayCommit, maybeCommit}
 use Rattle.raft_log.specs.declared.Log.{Log}
 use Rattle.raft_log.specs.declared.Decided.{Decided}
 use Rattle.raft_log.specs.declared.Decided.the-variants as decided
-use Rattle.raft_log.proofs.States.{split}
 use Rattle.leader.specs.Leader.{commitFound, leaderCommit}
 use Rattle.leader.specs.Rule.{MayCommit}
 
@@ -54,8 +53,8 @@ module _ (l : Log) (settled pending : List ℕ) (term : ℕ) (config : JointConf
       let granted = by-check (bothChecks (configCheck config) (rowsCheck peers)) after e in
       let may = taken (mayCommit l settled pending n term) (λ h. never cc) (past (broken l settled pending) (λ h. never cc) granted .1) in
       let is : after ≡ withCommitted l n = cc (may .1) in
-      let all = split _ _ (may .0) in
-      let bounds = split _ _ (all .0) in
+      let all = and-eq-true-iff _ _ .0 (may .0) in
+      let bounds = and-eq-true-iff _ _ .0 (all .0) in
       let same : after .committed .0 ≡ n = ap (λ (a : Log). a .committed .0) is in
       let rule : MayCommit l settled pending term config peers n =
       record {

@@ -9,10 +9,11 @@ use lib.ListN.{take}
 use lib.Seq.{take-append-le, take-append-add}
 use Rattle.units.proofs.Lists.{length-listed, take-listed}
 use Rattle.rules.specs.Log.{Entry}
-use Rattle.rules.specs.Receiver.{with-entries}
+use Rattle.rules.specs.Receiver.{with-entries, delete-from}
+use Rattle.rules.proofs.Receiver.{cut-on}
 use Rattle.raft_log.specs.declared.Log.{Log}
 use Rattle.raft_log.specs.Words.{room, putRun}
-use Rattle.raft_log.specs.State.{Good, lastOf}
+use Rattle.raft_log.specs.State.{Good, lastOf, settledCount}
 use Rattle.raft_log.specs.Append.{cutLog}
 use Rattle.log_laws.specs.View.{storeEntry, runEntry, records, view-of}
 use Rattle.log_laws.proofs.Views.{listed-two, put-below, put-inside}
@@ -34,18 +35,15 @@ counts o c m last h = omega arith
 
 module _ (l : Log) (settled pending : List ℕ) (good : Good l settled pending) (conflict : ℕ)
     (above : l .start .0 < conflict) (next : conflict ≤ lastOf l + 1) where
-  -- the offset after the cut, how many pending records stay, and how many settled ones there were
+  -- the offset after the cut, and how many pending records stay
   abbrev F : ℕ
   F = min (l .offset .0) conflict
 
   abbrev a : ℕ
   a = conflict - F
 
-  abbrev A : ℕ
-  A = l .offset .0 - 1 - l .start .0
-
-  abbrev pub kept : List Entry
-  kept = take (conflict - l .start .0 - 1) (view-of l settled pending .entries)
+  abbrev kept : List Entry
+  kept = delete-from (view-of l settled pending) conflict .entries
 
   -- the cut is in pending: what stays is all that is settled, and pending's first records
   kept-pending : l .offset .0 ≤ conflict → records (F - 1 - l .start .0) settled ++ records a pending ≡ kept
@@ -53,11 +51,11 @@ module _ (l : Log) (settled pending : List ℕ) (good : Good l settled pending) 
   kept-pending h =
       let at : F ≡ l .offset .0 = min-eq-left h in
       ap (λ (x : ℕ). records (x - 1 - l .start .0) settled ++ records (conflict - x) pending) at
-      ∙ ap (λ (x : List Entry). records A settled ++ x)
+      ∙ ap (λ (x : List Entry). records (settledCount l) settled ++ x)
       (sym (take-listed (storeEntry pending) 0 (l .count) (conflict - l .offset .0) (shorter (l .offset .0) (l .count) conflict (omega arith) next)))
-      ∙ sym (take-append-add (records A settled) (records (l .count) pending) (conflict - l .offset .0))
-      ∙ ap (λ (x : ℕ). take x (records A settled ++ records (l .count) pending))
-      (seam _ (l .offset .0) (l .start .0) conflict (length-listed (storeEntry settled) 0 A) (good .start<offset) h)
+      ∙ sym (take-append-add (records (settledCount l) settled) (records (l .count) pending) (conflict - l .offset .0))
+      ∙ ap (λ (x : ℕ). take x (records (settledCount l) settled ++ records (l .count) pending))
+      (seam _ (l .offset .0) (l .start .0) conflict (length-listed (storeEntry settled) 0 (settledCount l)) (good .start<offset) h)
 
   -- the cut is below: the first settled records alone stay
   kept-settled : conflict < l .offset .0 → records (F - 1 - l .start .0) settled ++ records a pending ≡ kept
@@ -65,13 +63,13 @@ module _ (l : Log) (settled pending : List ℕ) (good : Good l settled pending) 
   kept-settled h =
       let at : F ≡ conflict = min-eq-right (omega arith) in
       let none : conflict - conflict ≡ 0 = omega arith in
-      let within : conflict - l .start .0 - 1 ≤ A = lower (l .offset .0) (l .start .0) conflict h in
+      let within : conflict - l .start .0 - 1 ≤ settledCount l = lower (l .offset .0) (l .start .0) conflict h in
       ap (λ (x : ℕ). records (x - 1 - l .start .0) settled ++ records (conflict - x) pending) at
       ∙ ap (λ (x : ℕ). records (conflict - 1 - l .start .0) settled ++ records x pending) none
       ∙ append-nil (records (conflict - 1 - l .start .0) settled)
       ∙ ap (λ (x : ℕ). records x settled) (sub-right-comm conflict 1 (l .start .0))
-      ∙ sym (take-append-le (conflict - l .start .0 - 1) (records A settled) (records (l .count) pending) (omega (arith, length-listed (storeEntry settled) 0 A))
-      ∙ take-listed (storeEntry settled) 0 A (conflict - l .start .0 - 1) within)
+      ∙ sym (take-append-le (conflict - l .start .0 - 1) (records (settledCount l) settled) (records (l .count) pending) (omega (arith, length-listed (storeEntry settled) 0 (settledCount l)))
+      ∙ take-listed (storeEntry settled) 0 (settledCount l) (conflict - l .start .0 - 1) within)
 
   kept-is : records (F - 1 - l .start .0) settled ++ records a pending ≡ kept
   kept-is = ⊎-elim (λ h. kept-settled h) (λ h. kept-pending h) (below-or-not conflict (l .offset .0))
@@ -95,7 +93,7 @@ module _ (l : Log) (settled pending : List ℕ) (good : Good l settled pending) 
 
   pub view-cut : (run : List ℕ) (q m last persisted : ℕ) → last + 1 ≡ conflict + m → cutLog l conflict last persisted .count ≤ room pending
       → view-of (cutLog l conflict last persisted) settled (putRun pending a run q m)
-      ≡ with-entries (view-of l settled pending) (kept ++ listed (runEntry run) q m)
+      ≡ cut-on (view-of l settled pending) conflict (listed (runEntry run) q m)
   unfolding view-of
   view-cut run q m last persisted e r =
       let number : last + 1 - F ≡ a + m = counts (l .offset .0) conflict m last e in

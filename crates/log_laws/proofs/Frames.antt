@@ -17,17 +17,18 @@ use Rattle.raft_log.specs.declared.Extended.{Extended}
 use Rattle.raft_log.specs.declared.Extended.the-variants as extended
 use Rattle.raft_log.specs.declared.Changed.the-variants as changed
 use Rattle.raft_log.specs.Words.{recordWords, runCount, putRun}
+use Rattle.raft_log.specs.State.{settledCount}
 use Rattle.raft_log.specs.Append.{maybeAppendStore}
 use Rattle.raft_log.specs.Extend.{firstOf, appendRunStore}
 use Rattle.raft_log.specs.Settle.{stableEntries, stableEntriesStore}
 use Rattle.raft_log.proofs.Settling.{settle-room}
 use Rattle.log_laws.specs.Frame.{Elsewhere}
-use Rattle.log_laws.proofs.Views.{length-put-or, put-before, put-after, paste-before, paste-after}
+use Rattle.log_laws.proofs.Views.{length-put-or, put-elsewhere, paste-before, paste-after}
 
 -- A run put into a store, or not.
 store-elsewhere : (b : Bool) (s : List ℕ) (at : ℕ) (run : List ℕ) (k n w : ℕ) → Elsewhere at n w → getD (cond b s (putRun s at run k n)) w 0 ≡ getD s w 0
 store-elsewhere b s at run k n w h =
-    both-ends (λ (x : List ℕ). getD x w 0 ≡ getD s w 0) b refl (⊎-elim (put-before s at run k n w) (put-after s at run k n w) h)
+    both-ends (λ (x : List ℕ). getD x w 0 ≡ getD s w 0) b refl (put-elsewhere s at run k n w h)
 
 -- `maybe_append`: the records from the conflict up to the message's last index.
 module _ (pending : List ℕ) (idx : ℕ) (run : List ℕ) where
@@ -57,21 +58,18 @@ module _ (pending run : List ℕ) where
 
 -- `stable_entries`: the pending records, behind the settled ones.
 module _ (l : Log) (settled pending : List ℕ) (i t : ℕ) (after : Log) (now : stableEntries l settled pending i t ≡ changed.Now after) where
-  abbrev behind : ℕ
-  behind = l .offset .0 - 1 - l .start .0
-
-  fits : (behind * recordWords + l .count * recordWords ≤ length settled) × (l .count * recordWords ≤ length pending)
+  fits : (settledCount l * recordWords + l .count * recordWords ≤ length settled) × (l .count * recordWords ≤ length pending)
   fits =
       let r = settle-room l settled pending i t now in
       (omega (arith, r .1, r .0 .start<offset), omega (arith, r .0 .pending-room))
 
-  pub stable-entries-elsewhere : (w : ℕ) → Elsewhere behind (l .count) w → getD (stableEntriesStore (changed.Now after) l settled pending) w 0 ≡ getD settled w 0
+  pub stable-entries-elsewhere : (w : ℕ) → Elsewhere (settledCount l) (l .count) w → getD (stableEntriesStore (changed.Now after) l settled pending) w 0 ≡ getD settled w 0
   unfolding stableEntriesStore
   stable-entries-elsewhere w =
       ⊎-elim
-      (paste-before settled (behind * recordWords) pending (l .count * recordWords) w (omega (arith, fits .0)))
-      (λ h. paste-after settled (behind * recordWords) pending (l .count * recordWords) w (omega (arith, fits .0)) (fits .1) (omega arith))
+      (paste-before settled (settledCount l * recordWords) pending (l .count * recordWords) w (omega (arith, fits .0)))
+      (λ h. paste-after settled (settledCount l * recordWords) pending (l .count * recordWords) w (omega (arith, fits .0)) (fits .1) (omega arith))
 
   pub stable-entries-length : length (stableEntriesStore (changed.Now after) l settled pending) ≡ length settled
   unfolding stableEntriesStore
-  stable-entries-length = length-paste settled (behind * recordWords) pending (l .count * recordWords) (fits .0) (fits .1)
+  stable-entries-length = length-paste settled (settledCount l * recordWords) pending (l .count * recordWords) (fits .0) (fits .1)

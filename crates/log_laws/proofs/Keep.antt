@@ -1,54 +1,34 @@
 -- Each call keeps the state rules: what an answer's tests let through is what the new log's rules ask.
 use mathlib.Core.Path.{_≡_, refl, ap, subst}
-use mathlib.Core.Bool.{Bool, true, false, not, _&&_, _||_, cond}
+use mathlib.Core.Bool.{Bool, true, false, not, _&&_}
 use mathlib.Core.Logic.{⊎-elim}
 use mathlib.Core.List.{List}
 use Prim.Native.Nat.{ℕ, _+_, _-_, _≤_, _<_, min, max}
 use native.Mathlib.Omega.{arith}
+use native.Mathlib.Nat.{eq-zero-or-pos}
 use lib.Dec.{eqb, leb, ltb}
 use lib.ListN.{length}
-use borrow.Author.Tests.{ltb-true, ltb-false, leb-true, leb-false, eqb-true, not-false}
+use borrow.Author.Tests.{ltb-true, ltb-false, leb-false, eqb-true, ne-eqb, not-false}
 use Rattle.units.specs.Units.{indexLimit}
-use Rattle.units.specs.Refusals.{brokenState}
-use Rattle.units.proofs.Cond.{either-end}
 use Rattle.raft_log.specs.declared.Log.{Log}
-use Rattle.raft_log.specs.declared.Changed.{Changed}
 use Rattle.raft_log.specs.declared.Changed.the-variants as changed
-use Rattle.raft_log.specs.declared.Extended.{Extended}
-use Rattle.raft_log.specs.declared.Extended.the-variants as extended
-use Rattle.raft_log.specs.declared.Appended.{Appended}
-use Rattle.raft_log.specs.declared.Appended.the-variants as appended
-use Rattle.raft_log.specs.declared.Decided.{Decided}
-use Rattle.raft_log.specs.declared.Decided.the-variants as decided
 use Rattle.raft_log.specs.Words.{room, runCount}
-use Rattle.raft_log.specs.State.{Good, broken, lastOf, termAt}
+use Rattle.raft_log.specs.State.{Good, lastOf}
 use Rattle.raft_log.specs.Run.{termsSet, misnumbered, zeroTermIn}
-use Rattle.raft_log.specs.Append.{withPending, withCommitted, cutLog, cutIf, commitUp, afterMessage, outside, cuts, overfull, maybeAppend, maybeAppendStore, alikeBefore}
+use Rattle.raft_log.specs.Append.{withPending, withCommitted, cutLog, cutIf, commitUp, afterMessage, outside, mismatched, cuts, overfull, maybeAppend, maybeAppendStore, alikeBefore}
 use Rattle.raft_log.specs.Extend.{firstOf, appendRun, appendRunStore}
-use Rattle.raft_log.specs.Commit.{withApplied, mayCommit, mayPersist, commitTo, appliedTo, maybeCommit, maybePersist}
+use Rattle.raft_log.specs.Commit.{withApplied, commitTo, appliedTo, maybeCommit, maybePersist}
 use Rattle.raft_log.specs.Settle.{stableEntries, stableEntriesStore}
-use Rattle.raft_log.specs.Setup.{setupOk, settledZero, newLog}
-use Rattle.raft_log.proofs.States.{split, not-both, neither, whole-good}
+use Rattle.raft_log.specs.Setup.{newLog}
+use Rattle.raft_log.proofs.States.{neither, whole-good}
 use Rattle.raft_log.proofs.Runs.{numbered-rises}
-use Rattle.raft_log.proofs.Searching.{other-not}
 use Rattle.raft_log.proofs.Conflicts.{Held, alike-held}
 use Rattle.raft_log.proofs.Appending.{held-within, done-passed}
 use Rattle.raft_log.proofs.Extending.{InPlace, Allowed, last-allowed}
 use Rattle.raft_log.proofs.Settling.{settle-room}
-use Rattle.raft_log.proofs.Setups.{ok-sets-up}
 use Rattle.log_laws.specs.Keep.{AfterChanged, AfterDecided, AfterExtended, AfterAppended}
-use Rattle.log_laws.proofs.Views.{same?}
+use Rattle.log_laws.proofs.After.{after-new, after-commit-to, after-applied-to, after-maybe-commit, after-maybe-persist, after-stable-entries, after-append, after-maybe-append}
 use Rattle.log_laws.proofs.Frames.{maybe-append-length, append-length, stable-entries-length}
-
-decided-yes : (a b : Bool) (after : Log) (settled pending : List ℕ)
-    → (a ≡ false → b ≡ true → Good after settled pending) → AfterDecided Good (cond a (decided.Refused brokenState) (cond b (decided.Yes after) decided.No)) settled pending
-decided-yes a b after settled pending f =
-    let P : Decided → Type 0 = λ x. AfterDecided Good x settled pending in
-    either-end P a (λ _. tt) (λ no. either-end P b (f no) (λ _. tt))
-
-second-false : (a b : Bool) → a ≡ true → a && b ≡ false → b ≡ false
-second-false true b e h = h
-second-false false b e h = absurd (not-both e refl)
 
 -- ---- a good log stays good where the numbers that move keep to the rules that read them
 
@@ -124,54 +104,24 @@ module _ {l : Log} {settled pending : List ℕ} (g : Good l settled pending) whe
 
 module _ (l : Log) (settled pending : List ℕ) where
   pub commit-to-keeps : (i : ℕ) → AfterChanged Good (commitTo l settled pending i) settled pending
-  unfolding commitTo
-  commit-to-keeps i =
-      let P : Changed → Type 0 = λ a. AfterChanged Good a settled pending in
-      either-end P (broken l settled pending) (λ _. tt) (λ h.
-      let g : Good l settled pending = whole-good l settled pending h in
-      either-end P (leb i (l .committed .0)) (λ _. g) (λ a.
-      either-end P (ltb (lastOf l) i) (λ _. tt) (λ b.
-      let above : l .committed .0 < i = leb-false _ _ a in
-      committed-moved g i (omega (arith, g .applied≤committed)) (ltb-false _ _ b))))
+  commit-to-keeps i = after-commit-to Good l settled pending i (λ g. g) (λ g above within. committed-moved g i (omega (arith, g .applied≤committed)) within)
 
   pub applied-to-keeps : (i : ℕ) → AfterChanged Good (appliedTo l settled pending i) settled pending
-  unfolding appliedTo
-  applied-to-keeps i =
-      let P : Changed → Type 0 = λ a. AfterChanged Good a settled pending in
-      either-end P (broken l settled pending) (λ _. tt) (λ h.
-      let g : Good l settled pending = whole-good l settled pending h in
-      either-end P (eqb i 0) (λ _. g) (λ a.
-      either-end P (ltb (min (l .committed .0) (l .persisted .0)) i || ltb i (l .applied .0)) (λ _. tt) (λ b.
-      let within = neither (ltb (min (l .committed .0) (l .persisted .0)) i) (ltb i (l .applied .0)) (ap not b) in
-      applied-moved g i (ltb-false _ _ (within .1)) (ltb-false _ _ (within .0)))))
+  applied-to-keeps i = after-applied-to Good l settled pending i (λ g. g) (λ g. applied-moved g i)
 
   pub maybe-commit-keeps : (i t : ℕ) → AfterDecided Good (maybeCommit l settled pending i t) settled pending
-  unfolding maybeCommit
-  maybe-commit-keeps i t =
-      decided-yes (broken l settled pending) (mayCommit l settled pending i t) _ settled pending (λ h y.
-      let g : Good l settled pending = whole-good l settled pending h in
-      let bounds = split _ _ (split _ _ y .0) in
-      let above : l .committed .0 < i = ltb-true _ _ (bounds .0) in
-      committed-moved g i (omega (arith, g .applied≤committed)) (leb-true _ _ (bounds .1)))
+  maybe-commit-keeps i t = after-maybe-commit Good l settled pending i t (λ g above within. committed-moved g i (omega (arith, g .applied≤committed)) within)
 
   pub maybe-persist-keeps : (i t : ℕ) → AfterDecided Good (maybePersist l settled pending i t) settled pending
-  unfolding maybePersist
   maybe-persist-keeps i t =
-      decided-yes (broken l settled pending) (mayPersist l settled i t) _ settled pending (λ h y.
-      let g : Good l settled pending = whole-good l settled pending h in
-      let bounds = split _ _ (split _ _ y .0) in
-      let above : l .persisted .0 < i = ltb-true _ _ (bounds .0) in
-      pending-moved g (l .offset .0) (l .count) i (g .start<offset) (omega (arith, g .applied≤persisted)) (ltb-true _ _ (bounds .1)) (g .committed≤last) (g .settled-room) (g .pending-room) (g .last≤limit))
+      after-maybe-persist Good l settled pending i t (λ g above below.
+      pending-moved g (l .offset .0) (l .count) i (g .start<offset) (omega (arith, g .applied≤persisted)) below (g .committed≤last) (g .settled-room) (g .pending-room) (g .last≤limit))
 
 -- ---- set-up
 
 pub new-keeps : (start startterm last : ℕ) (settled pending : List ℕ) → AfterChanged Good (newLog start startterm last settled) settled pending
-unfolding newLog
 new-keeps start startterm last settled pending =
-    let P : Changed → Type 0 = λ a. AfterChanged Good a settled pending in
-    either-end P (not (setupOk start startterm last settled)) (λ _. tt) (λ h.
-    either-end P (settledZero settled (last - start)) (λ _. tt) (λ z.
-    let s = ok-sets-up start startterm last settled (not-false _ h) in
+    after-new Good start startterm last settled pending (λ s z.
     let above = s .start≤last in
     let limited = s .last≤limit in
     let fits = s .settled-room in
@@ -187,7 +137,7 @@ new-keeps start startterm last settled pending =
       settled-room = omega arith;
       pending-room = omega arith;
       last≤limit = omega arith;
-    }))
+    })
 
 -- ---- `stable_entries`
 
@@ -202,14 +152,11 @@ module _ (l : Log) (settled pending : List ℕ) where
 
   pub stable-entries-keeps : (i t : ℕ)
       → AfterChanged Good (stableEntries l settled pending i t) (stableEntriesStore (stableEntries l settled pending i t) l settled pending) pending
-  stable-entries-keeps i t = go (stableEntries l settled pending i t) refl
-    where
-      go : (x : Changed) → stableEntries l settled pending i t ≡ x → AfterChanged Good x (stableEntriesStore x l settled pending) pending
-      go (changed.Now a) e =
-          let (good, fits, same) = settle-room l settled pending i t e in
-          subst (λ (x : Log). Good x (stableEntriesStore (changed.Now a) l settled pending) pending) same
-          (all-settled good fits _ (stable-entries-length l settled pending i t a e))
-      go (changed.Refused number) e = tt
+  stable-entries-keeps i t =
+      after-stable-entries Good l settled pending i t (λ a e.
+      let (good, fits, same) = settle-room l settled pending i t e in
+      subst (λ (x : Log). Good x (stableEntriesStore (changed.Now a) l settled pending) pending) same
+      (all-settled good fits _ (stable-entries-length l settled pending i t a e)))
 
 -- ---- the cut
 
@@ -254,23 +201,21 @@ module _ (l : Log) (settled pending : List ℕ) where
       let g = whole-good l settled pending (p .whole) in
       ⊎-elim
       (λ empty. subst (λ (x : Log). Good x settled pending) (p .none empty) g)
-      (λ some.
-      let bad = neither (eqb (firstOf run) 0) (misnumbered run (firstOf run - 1)) (ap not (second-false (not (eqb (length run) 0)) _ (other-not some) (p .formed .0))) in
+      (λ more.
+      let some : length run ≡ 0 → ⊥ = λ e. omega arith in
+      let bad = neither (eqb (firstOf run) 0) (misnumbered run (firstOf run - 1)) (ap not (simp (ne-eqb _ _ some) at (p .formed .0))) in
       in-place-good (firstOf run) (runCount run) g (numbered-rises run (firstOf run - 1) (not-false _ (bad .1)) .limited) (p .some some))
-      (same? (length run) 0)
+      (eq-zero-or-pos (length run))
 
   pub append-keeps : (run : List ℕ) → AfterExtended Good (appendRun l settled pending run) settled (appendRunStore (appendRun l settled pending run) pending run)
-  append-keeps run = go (appendRun l settled pending run) refl
-    where
-      go : (x : Extended) → appendRun l settled pending run ≡ x → AfterExtended Good x settled (appendRunStore x pending run)
-      go (extended.Last i a) e = same-room (allowed-good run (last-allowed l settled pending run e)) refl (append-length pending run _)
-      go (extended.Refused number) e = tt
+  append-keeps run =
+      after-append Good l settled pending run (λ m a e. same-room (allowed-good run (last-allowed l settled pending run e)) refl (append-length pending run _))
 
 -- ---- `maybe_append`
 
 module _ {l : Log} {settled pending : List ℕ} (g : Good l settled pending) where
   -- where no record differs, the last is held
-  last-held : (idx term : ℕ) (run : List ℕ) → outside l idx term ≡ false → termAt l settled pending idx ≡ term → zeroTermIn run ≡ false
+  last-held : (idx term : ℕ) (run : List ℕ) → outside l idx term ≡ false → mismatched l settled pending idx term ≡ false → zeroTermIn run ≡ false
       → runCount run ≤ alikeBefore l settled pending idx run (runCount run) → idx + runCount run ≤ lastOf l
   unfolding termsSet
   last-held idx term run o e z h =
@@ -298,17 +243,14 @@ module _ {l : Log} {settled pending : List ℕ} (g : Good l settled pending) whe
 module _ (l : Log) (settled pending : List ℕ) where
   pub maybe-append-keeps : (idx term commit : ℕ) (run : List ℕ)
       → AfterAppended Good (maybeAppend l settled pending idx term commit run) settled (maybeAppendStore (maybeAppend l settled pending idx term commit run) pending idx run)
-  maybe-append-keeps idx term commit run = go (maybeAppend l settled pending idx term commit run) refl
-    where
-      go : (x : Appended) → maybeAppend l settled pending idx term commit run ≡ x → AfterAppended Good x settled (maybeAppendStore x pending idx run)
-      go (appended.Done c m a) e =
-          let n : ℕ = runCount run in
-          let k : ℕ = alikeBefore l settled pending idx run (runCount run) in
-          let (p, answer) = done-passed l settled pending idx term commit run e in
-          let g = whole-good l settled pending (p .whole) in
-          let same : afterMessage l idx n k commit ≡ a = cc answer in
-          same-room
-          (subst (λ (x : Log). Good x settled pending) same
-          (message-good g idx n k commit (p .spares) (last-held g idx term run (p .inside) (eqb-true _ _ (not-false _ (p .matches))) (p .formed .1)) (numbered-rises run idx (not-false _ (p .formed .0)) .limited) (p .room)))
-          refl (maybe-append-length pending idx run _)
-      go (appended.Refused number) e = tt
+  maybe-append-keeps idx term commit run =
+      after-maybe-append Good l settled pending idx term commit run (λ c m a e.
+      let n : ℕ = runCount run in
+      let k : ℕ = alikeBefore l settled pending idx run (runCount run) in
+      let (p, answer) = done-passed l settled pending idx term commit run e in
+      let g = whole-good l settled pending (p .whole) in
+      let same : afterMessage l idx n k commit ≡ a = cc answer in
+      same-room
+      (subst (λ (x : Log). Good x settled pending) same
+      (message-good g idx n k commit (p .spares) (last-held g idx term run (p .inside) (p .matches) (p .formed .1)) (numbered-rises run idx (not-false _ (p .formed .0)) .limited) (p .room)))
+      refl (maybe-append-length pending idx run _))

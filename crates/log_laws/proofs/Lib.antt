@@ -1,3 +1,4 @@
+pub mod After
 pub mod Keep
 pub mod Views
 pub mod Cutting

@@ -20,12 +20,12 @@ use Rattle.raft_log.specs.declared.Looked.the-variants as looked
 use Rattle.raft_log.specs.declared.Placed.the-variants as placed
 use Rattle.raft_log.specs.declared.Info.the-variants as info
 use Rattle.raft_log.specs.declared.ByTerm.the-variants as byterm
-use Rattle.raft_log.specs.State.{Good, broken, lastOf, termAt}
+use Rattle.raft_log.specs.State.{Good, lastOf, termAt}
 use Rattle.raft_log.specs.Look.{lookTerm, firstIndex, lastIndex, lastTerm, commitInfo, isUpToDate, lastDown, atMost, foundAt, byTermIn, findConflictByTerm}
 use Rattle.raft_log.proofs.States.{good-whole, zero-start, term-below, term-start}
 use Rattle.log_laws.specs.View.{view-of}
 use Rattle.log_laws.specs.Looking.{FoundBelow}
-use Rattle.log_laws.proofs.Views.{view-start, view-last, held-term}
+use Rattle.log_laws.proofs.Views.{view-start, view-last, view-term}
 
 -- The largest number from i down that p holds of: p holds there, and of none above it.
 module _ (p : ℕ → Bool) where
@@ -41,39 +41,36 @@ module _ (p : ℕ → Bool) where
 
   down-miss : (i k : ℕ) → lastDown p i < k → k ≤ i → p k ≡ false
   unfolding lastDown
-  down-miss zero k = λ h g. let z : ⊥ = omega arith in absurd z
+  down-miss zero k = λ h g. absurd (omega arith)
   down-miss (suc i) k =
       either-end (λ (x : ℕ). x < k → k ≤ suc i → p k ≡ false) (p (suc i))
-      (λ _ h g. let z : ⊥ = omega arith in absurd z)
+      (λ _ h g. absurd (omega arith))
       (λ miss h g. ⊎-elim (λ a. down-miss i k h (omega arith)) (λ a. let same : k ≡ suc i = omega arith in ap p same ∙ miss) (below-or-not k (suc i)))
 
 module _ (l : Log) (settled pending : List ℕ) (good : Good l settled pending) where
-  sound : broken l settled pending ≡ false
-  sound = good-whole l settled pending good
-
   last-term : termAt l settled pending (lastOf l) ≡ term-of (view-of l settled pending) (last (view-of l settled pending))
-  last-term = held-term l settled pending good (lastOf l) ∙ ap (term-of (view-of l settled pending)) (sym (view-last l settled pending good))
+  last-term = sym (view-term l settled pending good (lastOf l)) ∙ ap (term-of (view-of l settled pending)) (sym (view-last l settled pending good))
 
   -- THE LAWS, one a call.
   pub term-view : (i : ℕ) → lookTerm l settled pending i ≡ looked.At (termOf (term-of (view-of l settled pending) i))
   unfolding lookTerm
-  term-view i = rw (sound, held-term l settled pending good i)
+  term-view i = rw (good-whole l settled pending good, sym (view-term l settled pending good i))
 
   pub first-index-view : firstIndex l settled pending ≡ placed.At (indexOf (view-of l settled pending .start + 1))
   unfolding firstIndex
-  first-index-view = rw (sound, view-start l settled pending)
+  first-index-view = rw (good-whole l settled pending good, view-start l settled pending)
 
   pub last-index-view : lastIndex l settled pending ≡ placed.At (indexOf (last (view-of l settled pending)))
   unfolding lastIndex
-  last-index-view = rw (sound, view-last l settled pending good)
+  last-index-view = rw (good-whole l settled pending good, view-last l settled pending good)
 
   pub last-term-view : lastTerm l settled pending ≡ looked.At (termOf (term-of (view-of l settled pending) (last (view-of l settled pending))))
   unfolding lastTerm
-  last-term-view = rw (sound, last-term)
+  last-term-view = rw (good-whole l settled pending good, last-term)
 
   pub commit-info-view : commitInfo l settled pending ≡ info.At (l .committed) (termOf (term-of (view-of l settled pending) (l .committed .0)))
   unfolding commitInfo
-  commit-info-view = rw (sound, held-term l settled pending good (l .committed .0))
+  commit-info-view = rw (good-whole l settled pending good, sym (view-term l settled pending good (l .committed .0)))
 
   -- the term at 0 is 0: below the start, or at a start of (0, 0)
   pub at-zero : termAt l settled pending 0 ≡ 0
@@ -94,19 +91,19 @@ module _ (l : Log) (settled pending : List ℕ) (good : Good l settled pending) 
     found-below : FoundBelow (view-of l settled pending) i t down (termAt l settled pending down)
     found-below = record {
       within = down-within low-enough i;
-      its-term = held-term l settled pending good down;
+      its-term = sym (view-term l settled pending good down);
       low = leb-true (termAt l settled pending down) t (down-hit low-enough i (ap (λ (n : ℕ). leb n t) at-zero ∙ le-leb 0 t (omega arith)));
-      largest = λ k h g. omega (arith, leb-false (termAt l settled pending k) t (down-miss low-enough i k h g), held-term l settled pending good k);
+      largest = λ k h g. omega (arith, leb-false (termAt l settled pending k) t (down-miss low-enough i k h g), view-term l settled pending good k);
     }
 
     pub find-conflict-view : (j : Index) (u : Term) → findConflictByTerm l settled pending i t ≡ byterm.Found j u → FoundBelow (view-of l settled pending) i t (j .0) (u .0)
     unfolding findConflictByTerm byTermIn
     find-conflict-view j u e =
-        let inside : foundAt l settled pending down ≡ byterm.Found j u = past (ltb (lastOf l) i) (λ far. never cc) (rw sound at e) .1 in
+        let inside : foundAt l settled pending down ≡ byterm.Found j u = past (ltb (lastOf l) i) (λ far. never cc) (rw (good-whole l settled pending good) at e) .1 in
         let p : indexOf down ≡ j = cc in
         let q : termOf (termAt l settled pending down) ≡ u = cc in
         rw (sym p, sym q) found-below
 
   pub up-to-date-view : (i t : ℕ) → isUpToDate l settled pending i t ≡ yes-or-no.Is (ltb (term-of (view-of l settled pending) (last (view-of l settled pending))) t || (eqb t (term-of (view-of l settled pending) (last (view-of l settled pending))) && leb (last (view-of l settled pending)) i))
   unfolding isUpToDate
-  up-to-date-view i t = rw (sound, held-term l settled pending good (lastOf l), view-last l settled pending good)
+  up-to-date-view i t = rw (good-whole l settled pending good, sym (view-term l settled pending good (lastOf l)), view-last l settled pending good)

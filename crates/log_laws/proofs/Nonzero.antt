@@ -8,7 +8,7 @@ use Rattle.units.specs.Lists.{Each}
 use Rattle.units.proofs.Cond.{both-ends}
 use Rattle.units.proofs.Lists.{each-append, each-drop, each-at, at-each, each-take}
 use Rattle.rules.specs.Log.{Entry, nothing, Log, last}
-use Rattle.rules.specs.Receiver.{Message, Answer, reply-false, success, contains, conflicts, step-3, step-4, receiver}
+use Rattle.rules.specs.Receiver.{AppendEntries, Answer, reply-false, success, contains, conflicts, step-3, step-4, receiver}
 use Rattle.log_laws.specs.Keep.{NonzeroTerms}
 use Rattle.log_laws.proofs.Views.{entry-after}
 
@@ -49,7 +49,7 @@ abbrev pub AfterSteps : Answer → Type 0
 AfterSteps reply-false = Unit {0}
 AfterSteps (success l commit-index) = NonzeroTerms l
 
-pub receiver-nonzero : (l : Log) (commit-index : ℕ) (m : Message) → NonzeroTerms l → AllSet (m .entries) → AfterSteps (receiver l commit-index m)
+pub receiver-nonzero : (l : Log) (commit-index : ℕ) (m : AppendEntries) → NonzeroTerms l → AllSet (m .entries) → AfterSteps (receiver l commit-index m)
 unfolding receiver
 receiver-nonzero l commit-index m h q =
     let cut : Log = step-3 l (m .prev-log-index + 1) (m .entries) in

@@ -6,12 +6,12 @@ use mathlib.Core.Logic.{_⊎_, ⊎-elim, inl, inr}
 use mathlib.Core.List.{List, _++_, append-nil}
 use Prim.Native.Nat.{ℕ, _+_, _-_, _≤_, _<_, min, max}
 use native.Mathlib.Omega.{arith}
-use borrow.Author.Tests.{lt-ltb, le-ltb, le-leb, lt-leb, eq-eqb, ne-eqb, eqb-true, ltb-false, not-false}
+use borrow.Author.Tests.{lt-ltb, le-ltb, le-leb, lt-leb, ne-eqb, eqb-true, ltb-false, not-false}
 use lib.Dec.{ltb, eqb, leb}
 use lib.ListN.{length, getD, drop, drop-of-length-le}
 use Rattle.rules.specs.Log.{Entry, nothing, Log as Abstract, last}
 use Rattle.rules.specs.Receiver.{Answer, reply-false, success, contains, conflicts, with-entries, delete-from, step-3, step-4, step-5, receiver}
-use Rattle.rules.proofs.Receiver.{contains-holds, conflict-at, step-3-keeps, step-3-deletes, delete-none, cut-on, steps, raised}
+use Rattle.rules.proofs.Receiver.{conflict-at, step-3-keeps, step-3-deletes, delete-none, cut-on, steps, raised}
 use Rattle.units.specs.Units.{indexOf}
 use Rattle.units.specs.declared.Index.{Index}
 use Rattle.units.specs.Refusals.{outsideLog, mismatch}
@@ -23,17 +23,17 @@ use Rattle.units.proofs.Lists.{length-listed, at-listed, drop-listed}
 use Rattle.raft_log.specs.declared.Log.{Log}
 use Rattle.raft_log.specs.declared.Appended.{Appended}
 use Rattle.raft_log.specs.declared.Appended.the-variants.{Done, Refused}
-use Rattle.raft_log.specs.Words.{room, runCount, runTerm, firstFrom, putRun}
+use Rattle.raft_log.specs.Words.{room, runCount, runTerm, firstFrom, zeroAt, putRun}
 use Rattle.raft_log.specs.State.{Good, lastOf, broken, termAt}
-use Rattle.raft_log.specs.Run.{misnumbered, zeroTermIn, zeroAt, termsSet}
-use Rattle.raft_log.specs.Append.{cuts, accepted, decide, matchRun, maybeAppend, outside, mismatched, differs, cutIf, commitUp, afterMessage, overfull, maybeAppendStore, alikeBefore}
+use Rattle.raft_log.specs.Run.{misnumbered, zeroTermIn, termsSet}
+use Rattle.raft_log.specs.Append.{accepted, decide, matchRun, maybeAppend, outside, mismatched, differs, cutIf, commitUp, afterMessage, overfull, maybeAppendStore, alikeBefore}
 use Rattle.log_laws.specs.View.{runEntry, runEntries, view-of, messageOf}
-use Rattle.raft_log.proofs.States.{refuted, neither, whole-good, no-term}
+use Rattle.raft_log.proofs.States.{refuted, neither, whole-good}
 use Rattle.raft_log.proofs.Searching.{found}
 use Rattle.raft_log.proofs.Conflicts.{alike-held}
-use Rattle.raft_log.proofs.Appending.{no-done, other-refusal, done-passed}
+use Rattle.raft_log.proofs.Appending.{decide-refuses, far-refused, held-within, other-refusal, done-passed}
 use Rattle.log_laws.proofs.Cutting.{view-cut}
-use Rattle.log_laws.proofs.Views.{same?, view-last, view-term}
+use Rattle.log_laws.proofs.Views.{view-last, view-term}
 
 -- ---- step 2
 
@@ -47,15 +47,6 @@ module _ (l : Log) (settled pending : List ℕ) (good : Good l settled pending) 
   not-there : leb (l .start .0) idx && leb idx (lastOf l) ≡ false → outside l idx term || mismatched l settled pending idx term ≡ true
       → contains (view-of l settled pending) idx term ≡ not (outside l idx term || mismatched l settled pending idx term)
   not-there h k = contains-is ∙ ap (λ (b : Bool). b && eqb (termAt l settled pending idx) term) h ∙ ap not (sym k)
-
-  far : (idx < l .start .0) ⊎ (lastOf l < idx) → ltb idx (l .start .0) || ltb (lastOf l) idx ≡ true
-      → outside l idx term || mismatched l settled pending idx term ≡ true
-  unfolding outside
-  far w h =
-      ⊎-elim
-      (λ z. simp (h, eq-eqb term 0 z))
-      (λ z. simp (ne-eqb term 0 z, no-term l settled pending good idx w, ne-eqb 0 term (λ e. z (sym e))))
-      (same? term 0)
 
   here : l .start .0 ≤ idx → idx ≤ lastOf l
       → contains (view-of l settled pending) idx term ≡ not (outside l idx term || mismatched l settled pending idx term)
@@ -75,23 +66,18 @@ module _ (l : Log) (settled pending : List ℕ) (good : Good l settled pending) 
   pub step-2-is : contains (view-of l settled pending) idx term ≡ not (outside l idx term || mismatched l settled pending idx term)
   step-2-is =
       ⊎-elim
-      (λ a. not-there (simp (lt-leb (l .start .0) idx a)) (far (inl a) (simp (lt-ltb idx (l .start .0) a))))
+      (λ a. not-there (simp (lt-leb (l .start .0) idx a)) (far-refused l settled pending idx term good (inl a)))
       (λ a.
       ⊎-elim
-      (λ b. not-there (simp (lt-leb idx (lastOf l) b, and-false)) (far (inr b) (simp (le-ltb idx (l .start .0) a, lt-ltb (lastOf l) idx b))))
+      (λ b. not-there (simp (lt-leb idx (lastOf l) b, and-false)) (far-refused l settled pending idx term good (inr b)))
       (λ b. here a b)
       (below-or-not (lastOf l) idx))
       (below-or-not idx (l .start .0))
 
-  -- what step 2 lets through has its previous record in the log
-  inside : contains (view-of l settled pending) idx term ≡ true → (l .start .0 ≤ idx) × (idx ≤ lastOf l)
-  unfolding view-of
-  inside h = let s = contains-holds (view-of l settled pending) idx term .0 h .0 in (s .0, omega (arith, s .1, view-last l settled pending good))
-
 -- ---- steps 3 and 4
 
 module _ (l : Log) (settled pending : List ℕ) (good : Good l settled pending) (idx : ℕ) (run : List ℕ)
-    (start≤idx : l .start .0 ≤ idx) (idx≤last : idx ≤ lastOf l) (set : firstFrom (zeroAt run) 0 (runCount run) ≡ runCount run) where
+    (start≤idx : l .start .0 ≤ idx) (idx≤last : idx ≤ lastOf l) (set : firstFrom (zeroAt (runTerm run)) 0 (runCount run) ≡ runCount run) where
   -- how many records the run has, and how many of them come before the first that differs
   abbrev n : ℕ
   n = runCount run
@@ -232,11 +218,12 @@ module _ (l : Log) (settled pending : List ℕ) (idx term commit : ℕ) (run : L
   abbrev alike : ℕ
   alike = alikeBefore l settled pending idx run count
 
-  accepted-taken : Good l settled pending → contains (view-of l settled pending) idx term ≡ true → termsSet run ≡ true
+  accepted-taken : Good l settled pending → outside l idx term ≡ false → mismatched l settled pending idx term ≡ false → termsSet run ≡ true
       → overfull (afterMessage l idx count alike commit) pending ≡ false → TakenBy (accepted idx count alike (afterMessage l idx count alike commit))
   unfolding receiver termsSet
-  accepted-taken good there terms fits =
-      let w = inside l settled pending good idx term there in
+  accepted-taken good inside matches terms fits =
+      let w = held-within l settled pending idx term good inside matches in
+      let there = step-2-is l settled pending good idx term ∙ ap₂ (λ (x y : Bool). not (x || y)) inside matches in
       let long : idx + count ≡ idx + length (runEntries run) = ap (λ (x : ℕ). idx + x) (sym (length-listed (runEntry run) 0 count)) in
       let index : ℕ = step-5 (l .committed .0) commit (idx + length (runEntries run)) in
       record {
@@ -257,8 +244,7 @@ module _ (l : Log) (settled pending : List ℕ) (idx term commit : ℕ) (run : L
   taken c m a h =
       let (passed, answer) = done-passed l settled pending idx term commit run h in
       let good = whole-good l settled pending (passed .whole) in
-      let there = step-2-is l settled pending good idx term ∙ ap₂ (λ (x y : Bool). not (x || y)) (passed .inside) (passed .matches) in
-      subst TakenBy answer (accepted-taken good there (not-false _ (passed .formed .1)) (passed .room))
+      subst TakenBy answer (accepted-taken good (passed .inside) (passed .matches) (not-false _ (passed .formed .1)) (passed .room))
 
   -- and where it is refused by 4 or 5: step 2 replies false
   pub refused : (s : ℕ) → (s ≡ outsideLog) ⊎ (s ≡ mismatch) → maybeAppend l settled pending idx term commit run ≡ Refused s → by-the-paper ≡ reply-false
@@ -273,9 +259,7 @@ module _ (l : Log) (settled pending : List ℕ) (idx term commit : ℕ) (run : L
       let gone : contains (view-of l settled pending) idx term ≡ false = refuted _ (λ there.
       let both = neither (outside l idx term) (mismatched l settled pending idx term) (sym (step-2-is l settled pending good idx term) ∙ there) in
       let decided = sym (ap₂ (λ (x y : Bool). cond x (Refused outsideLog) (cond y (Refused mismatch) (decide l pending idx commit count alike))) (both .0) (both .1)) ∙ b3 .1 in
-      let b6 = past (cuts l idx count alike) (other-refusal (omega arith)) decided in
-      let b7 = past (overfull (afterMessage l idx count alike commit) pending) (other-refusal (omega arith)) (b6 .1) in
-      no-done (sym (b7 .1))) in
+      omega (arith, decide-refuses l pending idx commit count alike decided)) in
       ap
       (λ (b : Bool). cond b (success (step-4 (step-3 (view-of l settled pending) (idx + 1) (runEntries run)) idx (runEntries run)) (step-5 (l .committed .0) commit (idx + length (runEntries run)))) reply-false)
       gone

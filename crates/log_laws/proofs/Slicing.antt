@@ -111,7 +111,7 @@ module _ (l : Log) (settled pending : List ℕ) where
         either-end (Gives l settled pending (nextLow l s) (nextHigh l) says-no) (hasNext l s)
         (λ t.
         let more : nextLow l s < nextHigh l = next-true l s t .1 in
-        in-store (nextLow l s) (nextHigh l) says-no good (omega arith) (omega arith) (omega (arith, good .committed≤last)) (λ e. let z : ⊥ = omega arith in absurd z))
+        in-store (nextLow l s) (nextHigh l) says-no good (omega arith) (omega arith) (omega (arith, good .committed≤last)) (λ e. absurd (omega arith)))
         (λ f. rw (good-whole l settled pending good, f)))
 
   module _ (good : Good l settled pending) where

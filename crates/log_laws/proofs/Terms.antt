@@ -1,35 +1,27 @@
 -- Each call keeps nonzero terms: what it takes passed refusal 3's test, and its other records were there before. And where the term is 0.
 use Prim.Native.Nat.{ℕ, _-_, _<_}
-use mathlib.Core.Path.{_≡_, refl, sym, ap, subst, _∙_}
-use mathlib.Core.Bool.{Bool, true, false, not}
+use mathlib.Core.Path.{_≡_, sym, ap, subst, _∙_}
+use mathlib.Core.Bool.{Bool, true, false}
 use mathlib.Core.Logic.{_⊎_, ⊎-elim, inl, inr}
 use mathlib.Core.List.{List}
 use native.Mathlib.Omega.{arith}
 use borrow.Author.Tests.{eqb-false, not-false}
 use lib.Dec.{eqb}
-use lib.ListN.{length, take}
-use Rattle.units.proofs.Cond.{either-end}
+use lib.ListN.{length}
 use Rattle.units.proofs.Lists.{each-append, each-take, each-listed}
 use Rattle.units.proofs.Numbers.{below-or-not}
 use Rattle.units.specs.Lists.{listed}
 use Rattle.rules.specs.Log.{Entry, Log as Abstract, last, term-of}
+use Rattle.rules.specs.Receiver.{delete-from}
 use Rattle.raft_log.specs.declared.Log.{Log}
-use Rattle.raft_log.specs.declared.Changed.{Changed}
-use Rattle.raft_log.specs.declared.Changed.the-variants as changed
-use Rattle.raft_log.specs.declared.Decided.{Decided}
-use Rattle.raft_log.specs.declared.Decided.the-variants as decided
-use Rattle.raft_log.specs.declared.Extended.{Extended}
-use Rattle.raft_log.specs.declared.Extended.the-variants as extended
-use Rattle.raft_log.specs.declared.Appended.{Appended}
-use Rattle.raft_log.specs.declared.Appended.the-variants as appended
-use Rattle.raft_log.specs.Words.{runCount, none}
+use Rattle.raft_log.specs.Words.{runCount, none, zeroAt}
 use Rattle.raft_log.specs.State.{Good, termAt}
 use Rattle.raft_log.specs.Run.{zeroTermIn, termsSet}
 use Rattle.raft_log.specs.Append.{maybeAppend, maybeAppendStore}
 use Rattle.raft_log.specs.Extend.{firstOf, appendRun, appendRunStore}
 use Rattle.raft_log.specs.Commit.{commitTo, appliedTo, maybeCommit, maybePersist}
 use Rattle.raft_log.specs.Settle.{stableEntries, stableEntriesStore}
-use Rattle.raft_log.specs.Setup.{setupOk, settledZero, newLog}
+use Rattle.raft_log.specs.Setup.{newLog}
 use Rattle.raft_log.proofs.States.{no-term, zero-start}
 use Rattle.raft_log.proofs.Searching.{none-below}
 use Rattle.raft_log.proofs.Extending.{last-allowed}
@@ -38,18 +30,19 @@ use Rattle.log_laws.specs.View.{storeEntry, runEntry, runEntries, view-o
 use Rattle.log_laws.specs.Keep.{AfterChanged, AfterDecided, AfterExtended, AfterAppended, NonzeroTerms, TermsSet}
 use Rattle.log_laws.proofs.Views.{entry-start, view-last, view-term}
 use Rattle.log_laws.proofs.Looking.{at-zero}
-use Rattle.log_laws.proofs.Unmoved.{SameView, commit-to-view, applied-to-view, maybe-commit-view, maybe-persist-view}
+use Rattle.log_laws.proofs.After.{after-new, after-stable-entries, after-append, after-maybe-append}
+use Rattle.log_laws.proofs.Unmoved.{commit-to-view, applied-to-view, maybe-commit-view, maybe-persist-view}
 use Rattle.log_laws.proofs.Fresh.{fresh-view}
-use Rattle.log_laws.proofs.AfterCalls.{Extends, settled-view, extended-view}
+use Rattle.log_laws.proofs.AfterCalls.{ViewExtends, settled-view, extended-view}
 use Rattle.log_laws.proofs.Receiving.{taken}
 use Rattle.log_laws.proofs.Nonzero.{TermSet, AllSet, nonzero-set, set-nonzero, AfterSteps, receiver-nonzero}
 
 -- ---- what refusal 3 lets through: n records among which its search finds no term 0, and a run
 
-searched-set : (f : ℕ → Entry) (n : ℕ) → none (λ k. eqb (f k .term) 0) n ≡ true → AllSet (listed f 0 n)
+searched-set : (f : ℕ → Entry) (n : ℕ) → none (zeroAt (λ k. f k .term)) n ≡ true → AllSet (listed f 0 n)
 searched-set f n h =
     each-listed TermSet f 0 n (λ i b.
-    let nonzero : f i .term ≡ 0 → ⊥ = eqb-false _ _ (none-below (λ k. eqb (f k .term) 0) n h i (omega arith)) in
+    let nonzero : f i .term ≡ 0 → ⊥ = eqb-false _ _ (none-below (zeroAt (λ k. f k .term)) n h i (omega arith)) in
     omega arith)
 
 run-set : (run : List ℕ) → zeroTermIn run ≡ false → AllSet (runEntries run)
@@ -59,77 +52,54 @@ run-set run h = searched-set (runEntry run) (runCount run) (not-false _ h)
 -- ---- the calls that move one number
 
 module _ (l : Log) (settled pending : List ℕ) (set : TermsSet l settled pending) where
-  unmoved : (x : Changed) → AfterChanged (SameView l settled pending) x settled pending → AfterChanged TermsSet x settled pending
-  unmoved (changed.Now a) e = subst NonzeroTerms (sym e) set
-  unmoved (changed.Refused number) e = tt
-
-  unmoved-by : (x : Decided) → AfterDecided (SameView l settled pending) x settled pending → AfterDecided TermsSet x settled pending
-  unmoved-by (decided.Yes a) e = subst NonzeroTerms (sym e) set
-  unmoved-by decided.No e = tt
-  unmoved-by (decided.Refused number) e = tt
-
   pub commit-to-terms : (i : ℕ) → AfterChanged TermsSet (commitTo l settled pending i) settled pending
-  commit-to-terms i = unmoved (commitTo l settled pending i) (commit-to-view l settled pending i)
+  commit-to-terms = commit-to-view NonzeroTerms l settled pending set
 
   pub applied-to-terms : (i : ℕ) → AfterChanged TermsSet (appliedTo l settled pending i) settled pending
-  applied-to-terms i = unmoved (appliedTo l settled pending i) (applied-to-view l settled pending i)
+  applied-to-terms = applied-to-view NonzeroTerms l settled pending set
 
   pub maybe-commit-terms : (i t : ℕ) → AfterDecided TermsSet (maybeCommit l settled pending i t) settled pending
-  maybe-commit-terms i t = unmoved-by (maybeCommit l settled pending i t) (maybe-commit-view l settled pending i t)
+  maybe-commit-terms = maybe-commit-view NonzeroTerms l settled pending set
 
   pub maybe-persist-terms : (i t : ℕ) → AfterDecided TermsSet (maybePersist l settled pending i t) settled pending
-  maybe-persist-terms i t = unmoved-by (maybePersist l settled pending i t) (maybe-persist-view l settled pending i t)
+  maybe-persist-terms = maybe-persist-view NonzeroTerms l settled pending set
 
 -- ---- set-up
 
 pub new-terms : (start startterm last : ℕ) (settled pending : List ℕ) → AfterChanged TermsSet (newLog start startterm last settled) settled pending
-unfolding newLog
 new-terms start startterm last settled pending =
-    let P : Changed → Type 0 = λ a. AfterChanged TermsSet a settled pending in
-    either-end P (not (setupOk start startterm last settled)) (λ _. tt) (λ h.
-    either-end P (settledZero settled (last - start)) (λ _. tt) (λ z.
-    subst NonzeroTerms (sym (fresh-view start startterm last settled pending)) (set-nonzero _ (searched-set (storeEntry settled) (last - start) (not-false _ z)))))
+    after-new TermsSet start startterm last settled pending (λ s z.
+    subst NonzeroTerms (sym (fresh-view start startterm last settled pending)) (set-nonzero _ (searched-set (storeEntry settled) (last - start) z)))
 
 module _ (l : Log) (settled pending : List ℕ) (set : TermsSet l settled pending) where
   -- ---- `stable_entries`
 
   pub stable-entries-terms : (i t : ℕ)
       → AfterChanged TermsSet (stableEntries l settled pending i t) (stableEntriesStore (stableEntries l settled pending i t) l settled pending) pending
-  stable-entries-terms i t = go (stableEntries l settled pending i t) refl
-    where
-      go : (x : Changed) → stableEntries l settled pending i t ≡ x → AfterChanged TermsSet x (stableEntriesStore x l settled pending) pending
-      go (changed.Now a) e = subst NonzeroTerms (sym (settled-view l settled pending i t a e)) set
-      go (changed.Refused number) e = tt
+  stable-entries-terms i t = after-stable-entries TermsSet l settled pending i t (λ a e. subst NonzeroTerms (sym (settled-view l settled pending i t a e)) set)
 
   -- ---- `append`
 
   -- the records before the run's first index, then the run's
-  extends-terms : (run : List ℕ) → zeroTermIn run ≡ false → (b : Bool) (a : Log) (store : List ℕ) → Extends l settled pending run b a store → TermsSet a settled store
+  extends-terms : (run : List ℕ) → zeroTermIn run ≡ false → (b : Bool) (a : Log) (store : List ℕ) → ViewExtends l settled pending run b a store → TermsSet a settled store
   extends-terms run z true a store e = subst NonzeroTerms (sym e) set
   extends-terms run z false a store e =
-      let before : ℕ = firstOf run - l .start .0 - 1 in
-      let held : List Entry = view-of l settled pending .entries in
-      subst NonzeroTerms (sym e) (set-nonzero _ (each-append TermSet (take before held) (runEntries run) (each-take TermSet before held (nonzero-set _ set)) (run-set run z)))
+      let v = view-of l settled pending in
+      subst NonzeroTerms (sym e) (set-nonzero _ (each-append TermSet (delete-from v (firstOf run) .entries) (runEntries run) (each-take TermSet (firstOf run - v .start - 1) (v .entries) (nonzero-set v set)) (run-set run z)))
 
   pub append-terms : (run : List ℕ) → AfterExtended TermsSet (appendRun l settled pending run) settled (appendRunStore (appendRun l settled pending run) pending run)
-  append-terms run = go (appendRun l settled pending run) refl
-    where
-      go : (x : Extended) → appendRun l settled pending run ≡ x → AfterExtended TermsSet x settled (appendRunStore x pending run)
-      go (extended.Last i a) e =
-          extends-terms run (last-allowed l settled pending run e .formed .1) (eqb (length run) 0) a _ (extended-view l settled pending run i a e)
-      go (extended.Refused number) e = tt
+  append-terms run =
+      after-append TermsSet l settled pending run (λ i a e.
+      extends-terms run (last-allowed l settled pending run e .formed .1) (eqb (length run) 0) a _ (extended-view l settled pending run i a e))
 
   -- ---- `maybe_append`
 
   pub maybe-append-terms : (idx term commit : ℕ) (run : List ℕ)
       → AfterAppended TermsSet (maybeAppend l settled pending idx term commit run) settled (maybeAppendStore (maybeAppend l settled pending idx term commit run) pending idx run)
-  maybe-append-terms idx term commit run = go (maybeAppend l settled pending idx term commit run) refl
-    where
-      go : (x : Appended) → maybeAppend l settled pending idx term commit run ≡ x → AfterAppended TermsSet x settled (maybeAppendStore x pending idx run)
-      go (appended.Done c m a) e =
-          subst AfterSteps (taken l settled pending idx term commit run c m a e .steps)
-          (receiver-nonzero _ (l .committed .0) (messageOf idx term commit run) set (run-set run (done-passed l settled pending idx term commit run e .0 .formed .1)))
-      go (appended.Refused number) e = tt
+  maybe-append-terms idx term commit run =
+      after-maybe-append TermsSet l settled pending idx term commit run (λ c m a e.
+      subst AfterSteps (taken l settled pending idx term commit run c m a e .steps)
+      (receiver-nonzero _ (l .committed .0) (messageOf idx term commit run) set (run-set run (done-passed l settled pending idx term commit run e .0 .formed .1))))
 
 -- ---- where the term is 0
 

@@ -1,10 +1,11 @@
 -- The view is what the calls look up: its terms are `termAt`, its last index `lastOf`. And what a write to a store does to its records: those written are the new ones, every other word stays.
 use mathlib.Core.Path.{_≡_, refl, sym, ap, ap₂, _∙_}
 use mathlib.Core.Bool.{Bool, cond}
-use mathlib.Core.Logic.{_⊎_, ⊎-elim, inl, inr}
+use mathlib.Core.Logic.{_⊎_, ⊎-elim, ⊎-map, inl}
 use mathlib.Core.List.{List, [], _∷_, _++_}
 use Prim.Native.Nat.{ℕ, zero, suc, _+_, _-_, _*_, _≤_, _<_}
 use native.Mathlib.Omega.{arith}
+use native.Mathlib.Nat.{eq-or-lt-of-le}
 use borrow.Author.Tests.{lt-ltb, le-ltb}
 use lib.ListN.{length, getD, set, take, drop, length-append, length-set, List·getD-append, List·getD-eq-default}
 use lib.Seq.{getD-append-add, sets, length-sets, getD-set-same, getD-set-other, getD-take, getD-drop, paste, length-take-le, length-paste-head}
@@ -15,16 +16,10 @@ use Rattle.units.proofs.Numbers.{below-or-not}
 use Rattle.rules.specs.Log.{Entry, entry, nothing, Log as Abstract, last, entry-at, term-of}
 use Rattle.raft_log.specs.declared.Log.{Log}
 use Rattle.raft_log.specs.Words.{recordWords, room, putRecord, putRun, recordOf}
-use Rattle.raft_log.specs.State.{Good, lastOf, termAt}
+use Rattle.raft_log.specs.State.{Good, lastOf, settledCount, termAt}
 use Rattle.log_laws.specs.View.{storeEntry, runEntry, records, view-of}
+use Rattle.log_laws.specs.Frame.{Elsewhere}
 use Rattle.raft_log.proofs.States.{term-below, term-start, term-settled, term-pending, term-beyond}
-
-pub same? : (a b : ℕ) → (a ≡ b) ⊎ (a ≡ b → ⊥)
-same? a b =
-    ⊎-elim
-    (λ lt. inr (λ e. omega arith))
-    (λ le. ⊎-elim (λ lt. inr (λ e. omega arith)) (λ ge. inl (omega arith)) (below-or-not b a))
-    (below-or-not a b)
 
 abbrev term : Entry → ℕ
 term e = e .term
@@ -63,13 +58,13 @@ module _ (l : Log) (settled pending : List ℕ) (good : Good l settled pending) 
   start = entry (l .startterm .0) 0
 
   abbrev front : List Entry
-  front = records (l .offset .0 - 1 - l .start .0) settled
+  front = records (settledCount l) settled
 
   abbrev back : List Entry
   back = records (l .count) pending
 
-  front-length : length front ≡ l .offset .0 - 1 - l .start .0
-  front-length = length-listed (storeEntry settled) 0 (l .offset .0 - 1 - l .start .0)
+  front-length : length front ≡ settledCount l
+  front-length = length-listed (storeEntry settled) 0 (settledCount l)
 
   back-length : length back ≡ l .count
   back-length = length-listed (storeEntry pending) 0 (l .count)
@@ -81,7 +76,7 @@ module _ (l : Log) (settled pending : List ℕ) (good : Good l settled pending) 
       omega (arith, length-append front back, front-length, back-length)
 
   module _ (i : ℕ) where
-    pub entry-below : i < l .start .0 → entry-at (view-of l settled pending) i ≡ nothing
+    entry-below : i < l .start .0 → entry-at (view-of l settled pending) i ≡ nothing
     unfolding view-of entry-at
     entry-below h = simp (lt-ltb _ _ h)
 
@@ -99,7 +94,7 @@ module _ (l : Log) (settled pending : List ℕ) (good : Good l settled pending) 
     entry-settled h k =
         after-start h
         ∙ List·getD-append front back nothing (i - l .start .0 - 1) (omega (arith, front-length))
-        ∙ at-listed (storeEntry settled) 0 (l .offset .0 - 1 - l .start .0) (i - l .start .0 - 1) nothing (omega arith)
+        ∙ at-listed (storeEntry settled) 0 (settledCount l) (i - l .start .0 - 1) nothing (omega arith)
         ∙ ap (storeEntry settled) (omega arith)
 
     in-back : l .start .0 < i → l .offset .0 ≤ i → entry-at (view-of l settled pending) i ≡ getD back (i - l .offset .0) nothing
@@ -114,7 +109,7 @@ module _ (l : Log) (settled pending : List ℕ) (good : Good l settled pending) 
         ∙ at-listed (storeEntry pending) 0 (l .count) (i - l .offset .0) nothing m
         ∙ ap (storeEntry pending) (omega arith)
 
-    pub entry-beyond : l .start .0 < i → l .offset .0 ≤ i → l .count ≤ i - l .offset .0 → entry-at (view-of l settled pending) i ≡ nothing
+    entry-beyond : l .start .0 < i → l .offset .0 ≤ i → l .count ≤ i - l .offset .0 → entry-at (view-of l settled pending) i ≡ nothing
     entry-beyond h k m = in-back h k ∙ List·getD-eq-default back nothing (omega (arith, back-length))
 
     -- THE VIEW'S TERMS are the ones that the calls look up, inside the log and outside.
@@ -124,37 +119,32 @@ module _ (l : Log) (settled pending : List ℕ) (good : Good l settled pending) 
         (λ a. ap term (entry-below a) ∙ sym (term-below l settled pending i a))
         (λ a.
         ⊎-elim
-        (λ b. ap term (entry-start b) ∙ sym (term-start l settled pending i b))
+        (λ b. ap term (entry-start (sym b)) ∙ sym (term-start l settled pending i (sym b)))
         (λ b.
         ⊎-elim
-        (λ d. ap term (entry-settled (omega arith) d) ∙ sym (term-settled l settled pending i (omega arith) d))
+        (λ d. ap term (entry-settled b d) ∙ sym (term-settled l settled pending i b d))
         (λ d.
         ⊎-elim
-        (λ e. ap term (entry-pending (omega arith) d e) ∙ sym (term-pending l settled pending i (omega arith) d e))
-        (λ e. ap term (entry-beyond (omega arith) d e) ∙ sym (term-beyond l settled pending i (omega arith) d e))
+        (λ e. ap term (entry-pending b d e) ∙ sym (term-pending l settled pending i b d e))
+        (λ e. ap term (entry-beyond b d e) ∙ sym (term-beyond l settled pending i b d e))
         (below-or-not (i - l .offset .0) (l .count)))
         (below-or-not i (l .offset .0)))
-        (same? i (l .start .0)))
+        (eq-or-lt-of-le a))
         (below-or-not i (l .start .0))
-
-    pub held-term : termAt l settled pending i ≡ term-of (view-of l settled pending) i
-    held-term = sym view-term
 
 -- ---- words stored one after the other
 
-sets-before : (vs s : List ℕ) (i w : ℕ) → w < i → getD (sets s i vs) w 0 ≡ getD s w 0
-sets-before [] s i w h = refl
-sets-before (v ∷ vs) s i w h = sets-before vs (set s i v) (suc i) w (omega arith) ∙ getD-set-other s i w v 0 (omega arith)
-
-sets-after : (vs s : List ℕ) (i w : ℕ) → i + length vs ≤ w → getD (sets s i vs) w 0 ≡ getD s w 0
-sets-after [] s i w h = refl
-sets-after (v ∷ vs) s i w h = sets-after vs (set s i v) (suc i) w (omega arith) ∙ getD-set-other s i w v 0 (omega arith)
+sets-elsewhere : (vs s : List ℕ) (i w : ℕ) → (w < i) ⊎ (i + length vs ≤ w) → getD (sets s i vs) w 0 ≡ getD s w 0
+sets-elsewhere [] s i w h = refl
+sets-elsewhere (v ∷ vs) s i w h =
+    sets-elsewhere vs (set s i v) (suc i) w (⊎-map (λ before. omega arith) (λ behind. omega arith) h)
+    ∙ getD-set-other s i w v 0 (⊎-elim (λ before. omega arith) (λ behind. omega arith) h)
 
 sets-inside : (vs s : List ℕ) (i j : ℕ) → i + length vs ≤ length s → j < length vs → getD (sets s i vs) (i + j) 0 ≡ getD vs j 0
-sets-inside [] s i j h k = let z : ⊥ = omega arith in absurd z
+sets-inside [] s i j h k = absurd (omega arith)
 sets-inside (v ∷ vs) s i zero h k =
     ap (λ (w : ℕ). getD (sets (set s i v) (suc i) vs) w 0) (omega arith)
-    ∙ sets-before vs (set s i v) (suc i) i (omega arith)
+    ∙ sets-elsewhere vs (set s i v) (suc i) i (inl (omega arith))
     ∙ getD-set-same s i v 0 (omega arith)
 sets-inside (v ∷ vs) s i (suc j) h k =
     let long = length-set s i v in
@@ -163,7 +153,7 @@ sets-inside (v ∷ vs) s i (suc j) h k =
 
 -- ---- a run put into a store
 
-pub length-put : (s : List ℕ) (at : ℕ) (run : List ℕ) (k n : ℕ) → length (putRun s at run k n) ≡ length s
+length-put : (s : List ℕ) (at : ℕ) (run : List ℕ) (k n : ℕ) → length (putRun s at run k n) ≡ length s
 unfolding putRun
 length-put s at run k zero = refl
 length-put s at run k (suc n) =
@@ -174,28 +164,21 @@ pub length-put-or : (b : Bool) (s : List ℕ) (at : ℕ) (run : List ℕ) (k n :
 length-put-or b s at run k n = both-ends (λ (x : List ℕ). length x ≡ length s) b refl (length-put s at run k n)
 
 -- every word before the records and every word behind them stays
-pub put-before : (s : List ℕ) (at : ℕ) (run : List ℕ) (k n w : ℕ) → w < at * recordWords → getD (putRun s at run k n) w 0 ≡ getD s w 0
+pub put-elsewhere : (s : List ℕ) (at : ℕ) (run : List ℕ) (k n w : ℕ) → Elsewhere at n w → getD (putRun s at run k n) w 0 ≡ getD s w 0
 unfolding putRun
-put-before s at run k zero w h = refl
-put-before s at run k (suc n) w h =
-    put-before (putRecord s at (recordOf run k)) (at + 1) run (k + 1) n w (omega arith)
-    ∙ sets-before (recordOf run k) s (at * recordWords) w h
-
-pub put-after : (s : List ℕ) (at : ℕ) (run : List ℕ) (k n w : ℕ) → (at + n) * recordWords ≤ w → getD (putRun s at run k n) w 0 ≡ getD s w 0
-unfolding putRun
-put-after s at run k zero w h = refl
-put-after s at run k (suc n) w h =
-    put-after (putRecord s at (recordOf run k)) (at + 1) run (k + 1) n w (omega arith)
-    ∙ sets-after (recordOf run k) s (at * recordWords) w (omega arith)
+put-elsewhere s at run k zero w h = refl
+put-elsewhere s at run k (suc n) w h =
+    put-elsewhere (putRecord s at (recordOf run k)) (at + 1) run (k + 1) n w (⊎-map (λ before. omega arith) (λ behind. omega arith) h)
+    ∙ sets-elsewhere (recordOf run k) s (at * recordWords) w (⊎-map (λ before. before) (λ behind. omega arith) h)
 
 -- a word of a record put: the j-th of record at + i is the j-th of the run's record k + i
 put-word : (s : List ℕ) (at : ℕ) (run : List ℕ) (k n i j : ℕ) → at + n ≤ room s → i < n → j < recordWords
     → getD (putRun s at run k n) ((at + i) * recordWords + j) 0 ≡ getD (recordOf run (k + i)) j 0
 unfolding putRun
-put-word s at run k zero i j r h w = let z : ⊥ = omega arith in absurd z
+put-word s at run k zero i j r h w = absurd (omega arith)
 put-word s at run k (suc n) zero j r h w =
     ap (λ (x : ℕ). getD (putRun (putRecord s at (recordOf run k)) (at + 1) run (k + 1) n) x 0) (omega arith)
-    ∙ put-before (putRecord s at (recordOf run k)) (at + 1) run (k + 1) n (at * recordWords + j) (omega arith)
+    ∙ put-elsewhere (putRecord s at (recordOf run k)) (at + 1) run (k + 1) n (at * recordWords + j) (inl (omega arith))
     ∙ sets-inside (recordOf run k) s (at * recordWords) j (omega arith) w
     ∙ ap (λ (x : ℕ). getD (recordOf run x) j 0) (omega arith)
 put-word s at run k (suc n) (suc i) j r h w =
@@ -212,7 +195,7 @@ module _ (s : List ℕ) (at : ℕ) (run : List ℕ) (k n : ℕ) where
       (λ w b. let here : w ≡ 0 * recordWords + w = omega arith in put-word s at run k n i w r h b ∙ ap (λ (x : ℕ). getD (recordOf run (k + i)) x 0) here)
 
   pub put-below : (i : ℕ) → i < at → storeEntry (putRun s at run k n) i ≡ storeEntry s i
-  put-below i h = same-entry (putRun s at run k n) s i i (λ w b. put-before s at run k n (i * recordWords + w) (omega arith))
+  put-below i h = same-entry (putRun s at run k n) s i i (λ w b. put-elsewhere s at run k n (i * recordWords + w) (inl (omega arith)))
 
 -- ---- words copied
 
@@ -224,7 +207,7 @@ module _ (s : List ℕ) (at : ℕ) (t : List ℕ) (n : ℕ) where
       ∙ List·getD-append (take at s) (take n t) 0 w (omega arith)
       ∙ getD-take at s w 0 h
 
-  pub paste-inside : (j : ℕ) → at ≤ length s → n ≤ length t → j < n → getD (paste s at t n) (at + j) 0 ≡ getD t j 0
+  paste-inside : (j : ℕ) → at ≤ length s → n ≤ length t → j < n → getD (paste s at t n) (at + j) 0 ≡ getD t j 0
   paste-inside j r q h =
       let long = length-take-le at s r in
       let same : at + j ≡ length (take at s) + j = omega arith in

@@ -1,11 +1,12 @@
 -- What the state and the words of both stores stand for: a log of the rules (rules/specs/Log.antt). A reader must know: `view-of` lists the settled records, then the pending ones; no promise of a call cites it, it is for what is proved of them.
-use Prim.Native.Nat.{ℕ, _+_, _-_, _*_}
+use Prim.Native.Nat.{ℕ, _+_, _*_}
 use mathlib.Core.List.{List, _++_}
 use lib.ListN.{getD}
 use Rattle.units.specs.Lists.{listed}
 use Rattle.rules.specs.Log.{Entry, Log as Abstract, entry}
-use Rattle.rules.specs.Receiver.{Message}
+use Rattle.rules.specs.Receiver.{AppendEntries}
 use Rattle.raft_log.specs.declared.Log.{Log}
+use Rattle.raft_log.specs.State.{settledCount}
 use Rattle.raft_log.specs.Words.{recordWords, storeTerm, runCount, runTerm, runBody}
 
 -- The body of record k of a store. 01: "two words a record, term then body number".
@@ -33,11 +34,11 @@ unfoldable pub view-of : Log → List ℕ → List ℕ → Abstract
 view-of l settled pending = record {
   start = l .start .0;
   start-term = l .startterm .0;
-  entries = records (l .offset .0 - 1 - l .start .0) settled ++ records (l .count) pending;
+  entries = records (settledCount l) settled ++ records (l .count) pending;
 }
 
 -- What the arguments of `maybe_append(idx, term, commit, run)` stand for: the message of the paper, figure 2, "prevLogIndex", "prevLogTerm", "entries[]", "leaderCommit".
-abbrev pub messageOf : ℕ → ℕ → ℕ → List ℕ → Message
+abbrev pub messageOf : ℕ → ℕ → ℕ → List ℕ → AppendEntries
 messageOf idx term commit run = record {
   prev-log-index = idx;
   prev-log-term = term;

@@ -52,7 +52,7 @@ use Rattle.raft_log.proofs.Runs.{Rises, Passed, run-passed}
 use Rattle.raft_log.proofs.Conflicts.{Held}
 use Rattle.raft_log.proofs.Appending.{Cut, answer-cut}
 use Rattle.raft_log.proofs.Extending.{Extends, extend-cut}
-use Rattle.raft_log.proofs.Settling.{Last}
+use Rattle.raft_log.proofs.Settling.{IsLast}
 use Rattle.log_laws.specs.View.{view-of}
 use Rattle.log_laws.specs.Keep.{TermsSet}
 use Rattle.log_laws.specs.Looking.{FoundBelow}
@@ -425,11 +425,11 @@ extends = extend-cut logA settledA pendingA (6 ∷ 4 ∷ 8 ∷ []) refl (λ e. o
 pub not-extends : Extends 2 6 1 (log-with 4 3 2 3) → ⊥
 not-extends e = omega (arith, e .fits)
 
-pub last-pending : Last logA settledA pendingA 5 3
+pub last-pending : IsLast logA settledA pendingA 5 3
 unfolding logs
 last-pending = record { some = λ e. omega arith; there = refl; same = refl }
 
-pub not-last-pending : Last logA settledA pendingA 4 2 → ⊥
+pub not-last-pending : IsLast logA settledA pendingA 4 2 → ⊥
 not-last-pending l = let z : _≡_ {A = ℕ} 4 5 = l .there in omega arith
 
 -- Everybody has acknowledged 4, a record of term 2: a leader of term 2 may commit it. Committed is 2, so 2 itself may not be committed again.

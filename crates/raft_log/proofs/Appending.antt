@@ -1,14 +1,15 @@
 -- The answer of `maybe_append`: one law for each answer, on the closed functions of specs/Append.antt; the table read backwards; and what an answer with a conflict says to the copy.
-use mathlib.Core.Path.{_≡_, sym, ap, _∙_}
-use mathlib.Core.Bool.{true, false, _||_}
+use mathlib.Core.Path.{_≡_, sym, ap}
+use mathlib.Core.Bool.{true, false, _||_, or-true}
 use mathlib.Core.List.{List}
 use mathlib.Core.Logic.{_⊎_, ⊎-elim, inl, inr}
 use Prim.Native.Nat.{ℕ, _+_, _-_, _≤_, _<_, min, max}
 use native.Mathlib.Omega.{arith}
+use native.Mathlib.Nat.{eq-zero-or-pos}
 use lib.Dec.{ltb}
 use borrow.Author.Tests.{eq-eqb, ne-eqb, le-leb, lt-leb, lt-ltb, le-ltb, ltb-false, not-false}
 use Rattle.units.specs.Units.{indexLimit, indexOf}
-use Rattle.units.specs.Refusals.{brokenState, outsideLog, mismatch, cutsCommitted, noRoom}
+use Rattle.units.specs.Refusals.{outsideLog, mismatch, cutsCommitted, noRoom}
 use Rattle.units.specs.declared.Index.{Index}
 use Rattle.raft_log.specs.declared.Log.{Log}
 use Rattle.raft_log.specs.declared.Appended.{Appended}
@@ -21,9 +22,16 @@ use Rattle.raft_log.specs.Append.{withPending, withCommitted, afterMessa
 use Rattle.raft_log.proofs.States.{not-both, no-term}
 use Rattle.raft_log.proofs.Searching.{same-not, other-not}
 use Rattle.raft_log.proofs.Runs.{run-passed, run-refused, numbered-rises}
-use Rattle.units.proofs.Cond.{past}
+use Rattle.units.proofs.Cond.{both-ends, past}
 use Rattle.units.proofs.Never.{never}
 use Rattle.units.proofs.Numbers.{below-or-not}
+
+pub no-done : {r : ℕ} {c m : Index} {l : Log} → Refused r ≡ Done c m l → ⊥
+no-done h = never cc
+
+-- a refusal by one number is none by another
+pub other-refusal : {r s : ℕ} → (r ≡ s → ⊥) → Refused r ≡ Refused s → ⊥
+other-refusal other h = other cc
 
 -- ---- the decision
 
@@ -53,6 +61,14 @@ module _ (l : Log) (pending : List ℕ) (idx commit n k : ℕ) where
   unfolding decide
   decide-done h c f r m p = simp (lt-ltb _ _ h, lt-leb _ _ c, le-ltb _ _ (rw f at r), f, m, p)
 
+  -- and no other number is given by it
+  pub decide-refuses : {r : ℕ} → decide l pending idx commit n k ≡ Refused r → cutsCommitted ≤ r
+  unfolding decide
+  decide-refuses {r} =
+      let Given : Appended → Type 0 = λ x. x ≡ Refused r → cutsCommitted ≤ r in
+      both-ends Given (cuts l idx n k) (λ h. let same : cutsCommitted ≡ r = cc in omega arith)
+      (both-ends Given (overfull (afterMessage l idx n k commit) pending) (λ h. let same : noRoom ≡ r = cc in omega arith) (λ h. absurd (no-done (sym h))))
+
 -- ---- the previous record
 
 module _ (l : Log) (settled pending : List ℕ) (idx term commit : ℕ) (run : List ℕ) (n : ℕ) where
@@ -71,29 +87,26 @@ module _ (l : Log) (settled pending : List ℕ) (idx term commit : ℕ) (run : L
   unfolding matchRun
   match-on h e = simp (h, same-not e)
 
--- where it matches, it is held: outside the log the term is 0, and that is refused before
-module _ (l : Log) (settled pending : List ℕ) (idx term : ℕ) (g : Good l settled pending) (u : outside l idx term ≡ false) (e : termAt l settled pending idx ≡ term) where
-  not-far : (idx < l .start .0) ⊎ (lastOf l < idx) → ltb idx (l .start .0) || ltb (lastOf l) idx ≡ true → ⊥
+-- an index outside the log is refused by 4 or 5, since the term there is 0
+module _ (l : Log) (settled pending : List ℕ) (idx term : ℕ) (g : Good l settled pending) where
+  pub far-refused : (idx < l .start .0) ⊎ (lastOf l < idx) → outside l idx term || mismatched l settled pending idx term ≡ true
   unfolding outside
-  not-far w far =
-      let zero-term : term ≡ 0 = sym e ∙ no-term l settled pending g idx w in
-      let t : outside l idx term ≡ true = simp (eq-eqb _ _ zero-term, far) in
-      not-both t u
+  far-refused w =
+      let far : ltb idx (l .start .0) || ltb (lastOf l) idx ≡ true = ⊎-elim (λ h. simp (lt-ltb idx (l .start .0) h)) (λ h. simp (lt-ltb (lastOf l) idx h, or-true)) w in
+      ⊎-elim
+      (λ z. simp (far, eq-eqb term 0 z))
+      (λ z. simp (no-term l settled pending g idx w, ne-eqb term 0 (omega arith), ne-eqb 0 term (omega arith)))
+      (eq-zero-or-pos term)
 
-  pub held-within : (l .start .0 ≤ idx) × (idx ≤ lastOf l)
-  held-within =
-      let o = g .start<offset in (
-        ⊎-elim (λ h. absurd (not-far (inl h) (simp (lt-ltb _ _ h)))) (λ h. h) (below-or-not idx (l .start .0)),
-        ⊎-elim (λ h. absurd (not-far (inr h) (simp (le-ltb idx (l .start .0) (omega arith), lt-ltb _ _ h)))) (λ h. h) (below-or-not (lastOf l) idx),
-      )
+  -- so where neither is given, the log holds it
+  pub held-within : outside l idx term ≡ false → mismatched l settled pending idx term ≡ false → (l .start .0 ≤ idx) × (idx ≤ lastOf l)
+  held-within u e =
+      let near : (idx < l .start .0) ⊎ (lastOf l < idx) → ⊥ = λ w. not-both (far-refused w) (simp (u, e)) in
+      (⊎-elim (λ h. absurd (near (inl h))) (λ h. h) (below-or-not idx (l .start .0)), ⊎-elim (λ h. absurd (near (inr h))) (λ h. h) (below-or-not (lastOf l) idx))
 
 -- ---- the whole table
 
 module _ (l : Log) (settled pending : List ℕ) (idx term commit : ℕ) (run : List ℕ) where
-  pub answer-broken : broken l settled pending ≡ true → maybeAppend l settled pending idx term commit run ≡ Refused brokenState
-  unfolding maybeAppend
-  answer-broken h = simp h
-
   pub answer-run : {r : ℕ} → broken l settled pending ≡ false → checkRun run idx ≡ BadRun r
       → maybeAppend l settled pending idx term commit run ≡ Refused r
   unfolding maybeAppend
@@ -111,13 +124,6 @@ module _ (l : Log) (settled pending : List ℕ) (idx term commit : ℕ) (run : L
       simp (h, p .numbers, p .terms, p .count)
 
 -- ---- the table read backwards: what an answer that takes the message says
-
-pub no-done : {r : ℕ} {c m : Index} {l : Log} → Refused r ≡ Done c m l → ⊥
-no-done h = never cc
-
--- a refusal by one number is none by another
-pub other-refusal : {r s : ℕ} → (r ≡ s → ⊥) → Refused r ≡ Refused s → ⊥
-other-refusal other h = other cc
 
 module _ (l : Log) (settled pending : List ℕ) (idx term commit : ℕ) (run : List ℕ) where
   -- how many records the run has, how many of them come before the first that differs, and the log after them

@@ -1,10 +1,10 @@
 -- What the calls that move one number of the state answer, by what holds of the log.
 use mathlib.Core.Path.{_≡_}
-use mathlib.Core.Bool.{true, false}
+use mathlib.Core.Bool.{false}
 use mathlib.Core.List.{List}
 use Prim.Native.Nat.{ℕ, _-_, _<_, _≤_, min}
 use borrow.Author.Tests.{lt-ltb, le-ltb, le-leb, lt-leb, eq-eqb, ne-eqb}
-use Rattle.units.specs.Refusals.{brokenState, outOfRange}
+use Rattle.units.specs.Refusals.{outOfRange}
 use Rattle.raft_log.specs.declared.Log.{Log}
 use Rattle.raft_log.specs.declared.Changed.the-variants as changed
 use Rattle.raft_log.specs.declared.Decided.the-variants as decided
@@ -13,25 +13,7 @@ use Rattle.raft_log.specs.State.{lastOf, broken, termAt}
 use Rattle.raft_log.specs.Append.{withCommitted}
 use Rattle.raft_log.specs.Commit.{withApplied, withPersisted, commitTo, appliedTo, maybeCommit, maybePersist}
 
--- where the state rules are broken
-module _ (l : Log) (settled pending : List ℕ) (h : broken l settled pending ≡ true) (i : ℕ) where
-  pub commit-refused : commitTo l settled pending i ≡ changed.Refused brokenState
-  unfolding commitTo
-  commit-refused = simp h
-
-  pub applied-refused : appliedTo l settled pending i ≡ changed.Refused brokenState
-  unfolding appliedTo
-  applied-refused = simp h
-
-  pub maybe-commit-refused : (t : ℕ) → maybeCommit l settled pending i t ≡ decided.Refused brokenState
-  unfolding maybeCommit
-  maybe-commit-refused t = simp h
-
-  pub maybe-persist-refused : (t : ℕ) → maybePersist l settled pending i t ≡ decided.Refused brokenState
-  unfolding maybePersist
-  maybe-persist-refused t = simp h
-
--- where they hold
+-- where the state rules hold
 module _ (l : Log) (settled pending : List ℕ) (h : broken l settled pending ≡ false) (i : ℕ) where
   pub commit-below : i ≤ l .committed .0 → commitTo l settled pending i ≡ changed.Now l
   unfolding commitTo

@@ -7,9 +7,8 @@ use native.Mathlib.Nat.{zero-add}
 use native.Mathlib.Omega.{arith}
 use borrow.Author.Tests.{eq-eqb, eqb-true, eqb-false, not-false}
 use Rattle.raft_log.specs.declared.Log.{Log}
-use Rattle.raft_log.specs.Words.{runTerm, storeTerm, firstFrom, otherTerm}
+use Rattle.raft_log.specs.Words.{runTerm, storeTerm, firstFrom, zeroAt, otherTerm}
 use Rattle.raft_log.specs.State.{Good, lastOf, termAt}
-use Rattle.raft_log.specs.Run.{zeroAt}
 use Rattle.raft_log.specs.Append.{differs, alikeBefore}
 use Rattle.raft_log.proofs.States.{not-both, term-settled, term-pending, no-term}
 use Rattle.raft_log.proofs.Searching.{Found, found, found-is, none-below, same-not, other-not}
@@ -19,7 +18,7 @@ use Rattle.units.proofs.Numbers.{below-or-not}
 pub record Held (l : Log) (settled pending : List ℕ) (idx : ℕ) (run : List ℕ) (n : ℕ) : Type 0 where
   pub good : Good l settled pending
   pub within : (l .start .0 ≤ idx) × (idx ≤ lastOf l)
-  pub set : firstFrom (zeroAt run) 0 n ≡ n
+  pub set : firstFrom (zeroAt (runTerm run)) 0 n ≡ n
 
 -- record j of the run has the log's term
 abbrev agrees : Log → List ℕ → List ℕ → ℕ → List ℕ → ℕ → Type 0
@@ -60,7 +59,7 @@ module _ {l : Log} {settled pending : List ℕ} {idx : ℕ} {run : List ℕ} {n 
   -- past the last record the log's term is 0, and the run's is not
   beyond : {r : ℕ} → r < n → lastOf l ≤ idx + r → agrees l settled pending idx run r → ⊥
   beyond {r} h w q =
-      eqb-false _ _ (none-below (zeroAt run) n (eq-eqb _ _ (held .set)) r h)
+      eqb-false _ _ (none-below (zeroAt (runTerm run)) n (eq-eqb _ _ (held .set)) r h)
       (q ∙ no-term l settled pending (held .good) (idx + 1 + r) (inr (omega arith)))
 
   -- so the log holds every record before the first that differs

@@ -1,6 +1,6 @@
 -- The answer of `append`: one law for each answer, on the closed functions of specs/Extend.antt; the table read backwards; and what an answer with records says to the copy.
 use mathlib.Core.Path.{_≡_, sym, ap}
-use mathlib.Core.Bool.{true, false}
+use mathlib.Core.Bool.{false}
 use mathlib.Core.List.{List}
 use mathlib.Core.Logic.{⊎-elim}
 use Prim.Native.Nat.{ℕ, _+_, _-_, _≤_, _<_, min}
@@ -8,7 +8,7 @@ use native.Mathlib.Omega.{arith}
 use lib.ListN.{length}
 use borrow.Author.Tests.{eq-eqb, ne-eqb, le-leb, lt-leb, lt-ltb, le-ltb, ltb-false, leb-false}
 use Rattle.units.specs.Units.{indexOf}
-use Rattle.units.specs.Refusals.{brokenState, misnumberedRun, cutsCommitted, noRoom, outOfRange}
+use Rattle.units.specs.Refusals.{misnumberedRun, cutsCommitted, noRoom, outOfRange}
 use Rattle.units.specs.declared.Index.{Index}
 use Rattle.raft_log.specs.declared.Log.{Log}
 use Rattle.raft_log.specs.declared.Extended.{Extended}
@@ -61,10 +61,6 @@ no-zero-term run e =
     simp z
 
 module _ (l : Log) (settled pending run : List ℕ) where
-  pub extend-broken : broken l settled pending ≡ true → appendRun l settled pending run ≡ Refused brokenState
-  unfolding appendRun
-  extend-broken h = simp h
-
   module _ (ok : broken l settled pending ≡ false) where
     pub extend-empty : length run ≡ 0 → appendRun l settled pending run ≡ Last (indexOf (lastOf l)) l
     unfolding appendRun
@@ -93,7 +89,7 @@ module _ (l : Log) (settled pending run : List ℕ) where
 
 -- ---- the table read backwards: what an answer that is no refusal says
 
-pub no-last : {r : ℕ} {m : Index} {l : Log} → Refused r ≡ Last m l → ⊥
+no-last : {r : ℕ} {m : Index} {l : Log} → Refused r ≡ Last m l → ⊥
 no-last h = never cc
 
 -- a run from `first` on passed the tests of its place

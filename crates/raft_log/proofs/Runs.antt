@@ -1,6 +1,6 @@
 -- The check of a run: what its one pass keeps, and what its answer says of the two tests, each with facts in place of the tests.
 use mathlib.Core.Path.{_≡_, refl, sym, ap, subst, _∙_}
-use mathlib.Core.Bool.{Bool, true, false, not, cond}
+use mathlib.Core.Bool.{Bool, true, false, not, cond, and-eq-true-iff}
 use mathlib.Core.List.{List}
 use mathlib.Core.Logic.{_⊎_, inl, inr}
 use Prim.Native.Nat.{ℕ, _+_, _%_, _≤_, _<_}
@@ -14,9 +14,9 @@ use Rattle.units.proofs.Cond.{taken}
 use Rattle.units.proofs.Never.{never}
 use Rattle.raft_log.specs.declared.run.Checked.{Checked}
 use Rattle.raft_log.specs.declared.run.Checked.the-variants.{Records, Refused}
-use Rattle.raft_log.specs.Words.{runWords, runCount, runIndex, runTerm, firstFrom, none}
-use Rattle.raft_log.specs.Run.{misplaced, zeroAt, numbered, termsSet, misnumbered, zeroTermIn, scanRun, checkRun}
-use Rattle.raft_log.proofs.States.{split, refuted}
+use Rattle.raft_log.specs.Words.{runWords, runCount, runIndex, runTerm, firstFrom, none, zeroAt}
+use Rattle.raft_log.specs.Run.{misplaced, numbered, termsSet, misnumbered, zeroTermIn, scanRun, checkRun}
+use Rattle.raft_log.proofs.States.{refuted}
 use Rattle.raft_log.proofs.Searching.{Seek, seek-start, seek-next, seek-hit, seek-end, same-not}
 
 -- ---- the pass
@@ -42,7 +42,7 @@ marks-end (seen x) h = simp (ne-eqb _ _ x)
 -- what the pass keeps
 pub record Scanning (run : List ℕ) (idx n k mark : ℕ) : Type 0 where
   pub placed : Seek (misplaced run idx) n k
-  pub terms : Marks (zeroAt run) n k mark
+  pub terms : Marks (zeroAt (runTerm run)) n k mark
 
 pub scan-start : (run : List ℕ) (idx n : ℕ) → Scanning run idx n 0 0
 scan-start run idx n = record { placed = seek-start _ _; terms = clean (seek-start _ _) }
@@ -51,7 +51,7 @@ pub scan-next : {run : List ℕ} {idx n k mark term next : ℕ} → Scanning run
     → term ≡ runTerm run k → next ≡ cond (eqb term 0) zeroTerm mark → Scanning run idx n (k + 1) next
 scan-next {run} {idx} {n} {k} {mark} {term} {next} s h i q r = record {
   placed = seek-next (s .placed) h (same-not i);
-  terms = subst (Marks (zeroAt run) n (k + 1)) (sym r) (marks-next (eqb term 0) (s .terms) h (ap (λ (x : ℕ). eqb x 0) (sym q)));
+  terms = subst (Marks (zeroAt (runTerm run)) n (k + 1)) (sym r) (marks-next (eqb term 0) (s .terms) h (ap (λ (x : ℕ). eqb x 0) (sym q)));
 }
 
 module _ (run : List ℕ) (idx n : ℕ) where
@@ -77,7 +77,7 @@ module _ (run : List ℕ) (idx : ℕ) (whole : length run % runWords ≡ 0) (lim
   unfolding checkRun numbered termsSet scanRun
   check-mark =
       simp (eq-eqb _ _ whole, le-leb _ _ limited)
-      (by-mark (none (misplaced run idx) (runCount run)) (none (zeroAt run) (runCount run)) (Records (runCount run)))
+      (by-mark (none (misplaced run idx) (runCount run)) (none (zeroAt (runTerm run)) (runCount run)) (Records (runCount run)))
 
   pub run-bad : (scanRun run idx (runCount run) ≡ 0 → ⊥) → checkRun run idx ≡ Refused (scanRun run idx (runCount run))
   run-bad h = check-mark ∙ simp (ne-eqb _ _ h)
@@ -99,7 +99,7 @@ pub record Passed (run : List ℕ) (idx n : ℕ) : Type 0 where
   pub numbers : misnumbered run idx ≡ false
   pub terms : zeroTermIn run ≡ false
   pub rises : Rises run idx
-  pub set : firstFrom (zeroAt run) 0 n ≡ n
+  pub set : firstFrom (zeroAt (runTerm run)) 0 n ≡ n
 
 no-records : {r n : ℕ} → Refused r ≡ Records n → ⊥
 no-records h = never cc
@@ -114,8 +114,8 @@ module _ (run : List ℕ) (idx : ℕ) where
   pub numbered-rises : numbered run idx ≡ true → Rises run idx
   unfolding numbered
   numbered-rises h =
-      let a = split _ _ h in
-      let b = split _ _ (a .0) in
+      let a = and-eq-true-iff _ _ .0 h in
+      let b = and-eq-true-iff _ _ .0 (a .0) in
       record { whole = eqb-true _ _ (b .0); limited = leb-true _ _ (b .1); placed = eqb-true _ _ (a .1) }
 
   pub run-misnumbered : (Rises run idx → ⊥) → checkRun run idx ≡ Refused misnumberedRun
@@ -133,7 +133,7 @@ module _ (run : List ℕ) (idx : ℕ) where
         numbers = ap not (a .0);
         terms = ap not (b .0);
         rises = numbered-rises (a .0);
-        set = subst (λ (x : ℕ). firstFrom (zeroAt run) 0 x ≡ x) e (eqb-true _ _ (b .0));
+        set = subst (λ (x : ℕ). firstFrom (zeroAt (runTerm run)) 0 x ≡ x) e (eqb-true _ _ (b .0));
       }
 
   -- a refused run: the first of the two tests that failed gives the number

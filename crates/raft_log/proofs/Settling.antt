@@ -1,54 +1,50 @@
 -- The laws of specs/Settle.antt: one for each answer of `stable_entries`, what an answer that is no refusal tells, and the settled store after each.
 use mathlib.Core.Path.{_≡_, sym, ap, _∙_}
-use mathlib.Core.Bool.{true, false, not}
+use mathlib.Core.Bool.{true, false, not, and-eq-true-iff}
 use mathlib.Core.List.{List, _++_}
 use Prim.Native.Nat.{ℕ, _+_, _-_, _*_, _≤_, _<_}
 use native.Mathlib.Omega.{arith}
 use lib.ListN.{length, take, drop}
 use lib.Seq.{sets, sets-eq, paste, length-take-le}
 use borrow.Author.Tests.{eq-eqb, ne-eqb, lt-ltb, le-ltb, eqb-true, eqb-false, ltb-false, not-true}
-use Rattle.units.specs.Refusals.{brokenState, noRoom, notPending}
+use Rattle.units.specs.Refusals.{noRoom, notPending}
 use Rattle.raft_log.specs.declared.Log.{Log}
 use Rattle.raft_log.specs.declared.Changed.{Changed}
 use Rattle.raft_log.specs.declared.Changed.the-variants.{Now, Refused}
 use Rattle.raft_log.specs.Words.{room, recordWords}
-use Rattle.raft_log.specs.State.{Good, broken, termAt, lastOf}
+use Rattle.raft_log.specs.State.{Good, settledCount, broken, termAt, lastOf}
 use Rattle.raft_log.specs.Append.{withPending}
 use Rattle.raft_log.specs.Settle.{isLast, settledOverfull, settledLog, stableEntries, stableEntriesStore}
-use Rattle.raft_log.proofs.States.{split, refuted, whole-good}
+use Rattle.raft_log.proofs.States.{refuted, whole-good}
 use Rattle.units.proofs.Cond.{past}
 use Rattle.units.proofs.Never.{never}
 
 module _ (l : Log) (settled pending : List ℕ) (i t : ℕ) where
   -- (i, t) is the last of some pending records
-  pub record Last : Type 0 where
+  pub record IsLast : Type 0 where
     pub some : l .count ≡ 0 → ⊥
     pub there : i ≡ lastOf l
     pub same : termAt l settled pending i ≡ t
 
-  last-test : Last → isLast l settled pending i t ≡ true
+  last-test : IsLast → isLast l settled pending i t ≡ true
   last-test h = simp (ne-eqb _ _ (h .some), eq-eqb _ _ (h .there), eq-eqb _ _ (h .same))
 
-  test-last : isLast l settled pending i t ≡ true → Last
+  test-last : isLast l settled pending i t ≡ true → IsLast
   test-last h =
-      let a = split _ _ h in
-      let b = split _ _ (a .0) in
+      let a = and-eq-true-iff _ _ .0 h in
+      let b = and-eq-true-iff _ _ .0 (a .0) in
       record { some = eqb-false _ _ (not-true _ (b .0)); there = eqb-true _ _ (b .1); same = eqb-true _ _ (a .1) }
-
-  pub settle-broken : broken l settled pending ≡ true → stableEntries l settled pending i t ≡ Refused brokenState
-  unfolding stableEntries
-  settle-broken h = simp h
 
   module _ (h : broken l settled pending ≡ false) where
     pub settle-full : room settled < lastOf l - l .start .0 → stableEntries l settled pending i t ≡ Refused noRoom
     unfolding stableEntries
     settle-full r = simp (h, lt-ltb _ _ r)
 
-    pub settle-other : lastOf l - l .start .0 ≤ room settled → (Last → ⊥) → stableEntries l settled pending i t ≡ Refused notPending
+    pub settle-other : lastOf l - l .start .0 ≤ room settled → (IsLast → ⊥) → stableEntries l settled pending i t ≡ Refused notPending
     unfolding stableEntries
     settle-other r f = simp (h, le-ltb _ _ r, refuted (isLast l settled pending i t) (λ e. f (test-last e)))
 
-    pub settle-done : (last : ℕ) → last ≡ lastOf l → lastOf l - l .start .0 ≤ room settled → Last
+    pub settle-done : (last : ℕ) → last ≡ lastOf l → lastOf l - l .start .0 ≤ room settled → IsLast
         → stableEntries l settled pending i t ≡ Now (withPending l (last + 1) 0 (l .persisted .0))
     unfolding stableEntries
     settle-done last e r g = simp (e, h, le-ltb _ _ r, last-test g)
@@ -73,14 +69,11 @@ module _ (l : Log) (settled pending : List ℕ) where
       let e = past (not (isLast l settled pending i t)) no-now (r .1) in
       (whole-good l settled pending (s .0), ltb-false _ _ (r .0), cc (e .1))
 
-  pub settle-log : (i t : ℕ) {a : Log} → stableEntries l settled pending i t ≡ Now a → settledLog l ≡ a
-  settle-log i t h = settle-room i t h .2
-
   pub settled-kept : {x : Changed} {r : ℕ} → x ≡ Refused r → settled ≡ stableEntriesStore x l settled pending
   unfolding stableEntriesStore
   settled-kept e = sym (ap (λ (x : Changed). stableEntriesStore x l settled pending) e)
 
-  pub settled-copied : {x : Changed} {a : Log} → x ≡ Now a → (l .offset .0 - 1 - l .start .0) * recordWords + l .count * recordWords ≤ length settled → l .count * recordWords ≤ length pending
-      → sets settled ((l .offset .0 - 1 - l .start .0) * recordWords) (take (l .count * recordWords) pending) ≡ stableEntriesStore x l settled pending
+  pub settled-copied : {x : Changed} {a : Log} → x ≡ Now a → settledCount l * recordWords + l .count * recordWords ≤ length settled → l .count * recordWords ≤ length pending
+      → sets settled (settledCount l * recordWords) (take (l .count * recordWords) pending) ≡ stableEntriesStore x l settled pending
   unfolding stableEntriesStore
   settled-copied e here there = sets-paste settled _ pending _ here there ∙ sym (ap (λ (x : Changed). stableEntriesStore x l settled pending) e)

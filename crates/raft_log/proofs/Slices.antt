@@ -1,6 +1,6 @@
 -- The answers of specs/Slice.antt, one law for each: where a run of records stands, which part of a store that is.
 use mathlib.Core.Path.{_≡_}
-use mathlib.Core.Bool.{true, false, _&&_}
+use mathlib.Core.Bool.{true, false, _&&_, and-eq-true-iff}
 use mathlib.Core.List.{List, []}
 use Prim.Native.Nat.{ℕ, _+_, _-_, _*_, _≤_, _<_, min}
 use native.Mathlib.Omega.{arith}
@@ -14,7 +14,7 @@ use Rattle.raft_log.specs.declared.Bounds.the-variants as bounds
 use Rattle.raft_log.specs.Words.{recordWords, room}
 use Rattle.raft_log.specs.State.{lastOf, broken}
 use Rattle.raft_log.specs.Slice.{inStore, sliceIn, nextLow, nextHigh, hasNext, entriesBounds, nextEntriesBoundsSince, storePart}
-use Rattle.raft_log.proofs.States.{split, refuted}
+use Rattle.raft_log.proofs.States.{refuted}
 
 module _ (l : Log) (low high : ℕ) where
   pub none-between : low ≡ high → inStore l low high ≡ bounds.Empty
@@ -62,7 +62,7 @@ module _ (l : Log) (s : ℕ) where
   pub next-true : hasNext l s ≡ true → (s < wordMax) × (nextLow l s < nextHigh l)
   unfolding hasNext
   next-true h =
-      let p = split (ltb s wordMax) (ltb (nextLow l s) (nextHigh l)) h in
+      let p = and-eq-true-iff (ltb s wordMax) (ltb (nextLow l s) (nextHigh l)) .0 h in
       (ltb-true _ _ (p .0), ltb-true _ _ (p .1))
 
 module _ (l : Log) (settled pending : List ℕ) (i : ℕ) (sound : broken l settled pending ≡ false) where
@@ -94,7 +94,7 @@ module _ (store : List ℕ) (first low high : ℕ) where
   part-none f =
       let e : (leb first low && leb low high && leb (high - first) (room store)) ≡ false =
       refuted _ (λ t.
-      let a = split (leb first low && leb low high) _ t in
-      let b = split (leb first low) _ (a .0) in
+      let a = and-eq-true-iff (leb first low && leb low high) _ .0 t in
+      let b = and-eq-true-iff (leb first low) _ .0 (a .0) in
       f (leb-true _ _ (b .0)) (leb-true _ _ (b .1)) (leb-true _ _ (a .1))) in
       simp e

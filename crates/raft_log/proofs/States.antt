@@ -1,6 +1,6 @@
 -- The state rules as a test and as facts say the same; and the term at an index, by where the index stands.
 use mathlib.Core.Path.{_≡_, refl, sym, ap, _∙_}
-use mathlib.Core.Bool.{Bool, true, false, not, _&&_, _||_, false≢true, and-eq-true-iff}
+use mathlib.Core.Bool.{Bool, true, false, not, _||_, false≢true, and-eq-true-iff}
 use mathlib.Core.List.{List}
 use mathlib.Core.Logic.{_⊎_, ⊎-elim, _↔_}
 use Prim.Native.Nat.{ℕ, _-_, _≤_, _<_}
@@ -10,9 +10,6 @@ use lib.Dec.{eqb}
 use Rattle.raft_log.specs.declared.Log.{Log}
 use Rattle.raft_log.specs.Words.{storeTerm}
 use Rattle.raft_log.specs.State.{Good, agree, stateOk, broken, lastOf, termAt}
-
-pub split : (a b : Bool) → a && b ≡ true → (a ≡ true) × (b ≡ true)
-split a b = and-eq-true-iff a b .0
 
 -- a test that cannot be true is false
 pub refuted : (b : Bool) → (b ≡ true → ⊥) → b ≡ false
@@ -52,16 +49,16 @@ module _ (l : Log) (settled pending : List ℕ) where
   pub ok-good : stateOk l settled pending ≡ true → Good l settled pending
   unfolding stateOk
   ok-good h =
-      let a = split _ _ h in
-      let b = split _ _ (a .0) in
-      let d = split _ _ (b .0) in
-      let e = split _ _ (d .0) in
-      let f = split _ _ (e .0) in
-      let g = split _ _ (f .0) in
-      let i = split _ _ (g .0) in
-      let j = split _ _ (i .0) in
-      let k = split _ _ (j .0) in
-      let m = split _ _ (k .0) in
+      let a = and-eq-true-iff _ _ .0 h in
+      let b = and-eq-true-iff _ _ .0 (a .0) in
+      let d = and-eq-true-iff _ _ .0 (b .0) in
+      let e = and-eq-true-iff _ _ .0 (d .0) in
+      let f = and-eq-true-iff _ _ .0 (e .0) in
+      let g = and-eq-true-iff _ _ .0 (f .0) in
+      let i = and-eq-true-iff _ _ .0 (g .0) in
+      let j = and-eq-true-iff _ _ .0 (i .0) in
+      let k = and-eq-true-iff _ _ .0 (j .0) in
+      let m = and-eq-true-iff _ _ .0 (k .0) in
       record {
         starts = m .0;
         start≤applied = leb-true _ _ (m .1);

@@ -8,15 +8,11 @@ use Rattle.units.specs.Units.{indexLimit}
 use Rattle.units.specs.Refusals.{misnumberedRun, zeroTerm}
 use Rattle.raft_log.specs.declared.run.Checked.{Checked}
 use Rattle.raft_log.specs.declared.run.Checked.the-variants as checked
-use Rattle.raft_log.specs.Words.{runWords, runCount, runIndex, runTerm, none}
+use Rattle.raft_log.specs.Words.{runWords, runCount, runIndex, runTerm, none, zeroAt}
 
 -- Record k does not have the index that its place after idx asks: "indices not rising by one from idx + 1".
 abbrev pub misplaced : List ℕ → ℕ → ℕ → Bool
 misplaced run idx k = not (eqb (runIndex run k) (idx + 1 + k))
-
--- The term of record k is 0: "a zero term in a run".
-abbrev pub zeroAt : List ℕ → ℕ → Bool
-zeroAt run k = eqb (runTerm run k) 0
 
 -- No part of refusal 2 holds of a run after idx: "run length not a multiple of three, indices not rising by one from idx + 1, .. or idx + count .. above the limit".
 unfoldable pub numbered : List ℕ → ℕ → Bool
@@ -31,7 +27,7 @@ misnumbered run idx = not (numbered run idx)
 
 -- No record of a run has term 0. For refusal 3, "a zero term in a run".
 unfoldable pub termsSet : List ℕ → Bool
-termsSet run = none (zeroAt run) (runCount run)
+termsSet run = none (zeroAt (runTerm run)) (runCount run)
 
 -- Refusal 3 of a run: "a zero term in a run".
 abbrev pub zeroTermIn : List ℕ → Bool
@@ -39,7 +35,7 @@ zeroTermIn run = not (termsSet run)
 
 -- Inner: what the code's one pass over a run finds, as a number: 2 before 3, since "The lowest number wins".
 unfoldable pub scanRun : List ℕ → ℕ → ℕ → ℕ
-scanRun run idx n = cond (none (misplaced run idx) n) (cond (none (zeroAt run) n) 0 zeroTerm) misnumberedRun
+scanRun run idx n = cond (none (misplaced run idx) n) (cond (none (zeroAt (runTerm run)) n) 0 zeroTerm) misnumberedRun
 
 -- Inner: the check of a run, 2 before 3, since "The lowest number wins"; or how many records it has.
 unfoldable pub checkRun : List ℕ → ℕ → Checked

@@ -10,7 +10,7 @@ use Rattle.raft_log.specs.declared.Log.{Log}
 use Rattle.raft_log.specs.declared.Changed.{Changed}
 use Rattle.raft_log.specs.declared.Changed.the-variants as changed
 use Rattle.raft_log.specs.Words.{recordWords, room}
-use Rattle.raft_log.specs.State.{lastOf, broken, termAt}
+use Rattle.raft_log.specs.State.{lastOf, settledCount, broken, termAt}
 use Rattle.raft_log.specs.Append.{withPending}
 
 -- The log with nothing pending any more: "offset becomes i + 1".
@@ -35,4 +35,4 @@ stableEntries l settled pending i t =
 -- The settled store after an answer: "pending is copied to settled", behind its own records; every other word as it was.
 unfoldable pub stableEntriesStore : Changed → Log → List ℕ → List ℕ → List ℕ
 stableEntriesStore (changed.Refused number) l settled pending = settled
-stableEntriesStore (changed.Now after) l settled pending = paste settled ((l .offset .0 - 1 - l .start .0) * recordWords) pending (l .count * recordWords)
+stableEntriesStore (changed.Now after) l settled pending = paste settled (settledCount l * recordWords) pending (l .count * recordWords)

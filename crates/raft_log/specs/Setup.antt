@@ -8,7 +8,7 @@ use Rattle.units.specs.Refusals.{brokenState, zeroTerm}
 use Rattle.raft_log.specs.declared.Log.{Log}
 use Rattle.raft_log.specs.declared.Changed.{Changed}
 use Rattle.raft_log.specs.declared.Changed.the-variants as changed
-use Rattle.raft_log.specs.Words.{room, storeTerm, none}
+use Rattle.raft_log.specs.Words.{room, storeTerm, none, zeroAt}
 use Rattle.raft_log.specs.State.{agree}
 
 -- "committed = applied = start, persisted = last, offset = last + 1"
@@ -31,13 +31,9 @@ setupOk start startterm last settled =
     && leb last indexLimit
     && leb (last - start) (room settled)
 
--- Record k of settled has term 0: "a zero term .. in settled at set-up".
-abbrev pub zeroTermAt : List ℕ → ℕ → Bool
-zeroTermAt settled k = eqb (storeTerm settled k) 0
-
 -- "Set-up (`new`) also checks that settled terms are nonzero": one of its first n records has term 0.
 abbrev pub settledZero : List ℕ → ℕ → Bool
-settledZero settled n = not (none (zeroTermAt settled) n)
+settledZero settled n = not (none (zeroAt (storeTerm settled)) n)
 
 -- THE PROMISE of `new`: 1, then 3, "a zero term .. in settled at set-up", else the log above.
 unfoldable pub newLog : ℕ → ℕ → ℕ → List ℕ → Changed

@@ -13,6 +13,10 @@ use Rattle.raft_log.specs.Words.{room, storeTerm}
 abbrev pub lastOf : Log → ℕ
 lastOf l = l .offset .0 + l .count - 1
 
+-- How many records settled holds. 01: "settled holds indices start+1 to offset-1".
+abbrev pub settledCount : Log → ℕ
+settledCount l = l .offset .0 - 1 - l .start .0
+
 -- Two tests that agree. For "start index 0 exactly if start term 0".
 abbrev pub agree : Bool → Bool → Bool
 agree true b = b
@@ -30,7 +34,7 @@ stateOk l settled pending =
     && leb (l .applied .0) (l .persisted .0)
     && ltb (l .persisted .0) (l .offset .0)
     && ltb (l .start .0) (l .offset .0)
-    && leb (l .offset .0 - 1 - l .start .0) (room settled)
+    && leb (settledCount l) (room settled)
     && leb (l .count) (room pending)
     && leb (lastOf l) indexLimit
 
@@ -44,7 +48,7 @@ pub record Good (l : Log) (settled pending : List ℕ) : Type 0 where
   pub applied≤persisted : l .applied .0 ≤ l .persisted .0
   pub persisted<offset : l .persisted .0 < l .offset .0
   pub start<offset : l .start .0 < l .offset .0
-  pub settled-room : l .offset .0 - 1 - l .start .0 ≤ room settled
+  pub settled-room : settledCount l ≤ room settled
   pub pending-room : l .count ≤ room pending
   pub last≤limit : lastOf l ≤ indexLimit
 

@@ -61,6 +61,10 @@ firstFrom p k (suc n) = cond (p k) k (firstFrom p (k + 1) n)
 abbrev pub none : (ℕ → Bool) → ℕ → Bool
 none p n = eqb (firstFrom p 0 n) n
 
+-- Term k is 0, of the terms of a run or of a store. 01, refusal 3: "a zero term in a run, or in settled at set-up".
+abbrev pub zeroAt : (ℕ → ℕ) → ℕ → Bool
+zeroAt term k = eqb (term k) 0
+
 -- Record k + i of a run has another term than record at + i of a store. For "the first run record whose term differs from term(its index)", among the records of one store.
 abbrev pub otherTerm : List ℕ → ℕ → List ℕ → ℕ → ℕ → Bool
 otherTerm s at run k i = not (eqb (runTerm run (k + i)) (storeTerm s (at + i)))

@@ -23,9 +23,8 @@ use units::smaller;
 ghost use mathlib.Core.Path.{_≡_};
 ghost use Prim.Native.Nat.{_+_, _-_, _≤_, min};
 ghost use Rattle.units.specs.Units.{wordMax, indexLimit};
-ghost use Rattle.raft_log.specs.Words.{room, runCount, firstFrom};
+ghost use Rattle.raft_log.specs.Words.{room, runCount, runTerm, firstFrom, zeroAt};
 ghost use Rattle.raft_log.specs.State.{Good, lastOf};
-ghost use Rattle.raft_log.specs.Run.{zeroAt};
 ghost use Rattle.raft_log.specs.Append.{alikeBefore, outside, matchRun, decide, maybeAppend};
 ghost use Rattle.raft_log.specs.Extend.{extendFrom, appendRun};
 
@@ -43,7 +42,7 @@ fn conflict_across(
     requires { ⌜ (n ≤ runCount (now run)) × (idx + n ≤ wordMax) ⌝ }
     requires { ⌜ Good log (now settled) (now pending) ⌝ }
     requires { ⌜ (log .start .0 ≤ idx) × (idx ≤ lastOf log) ⌝ }
-    requires { ⌜ firstFrom (zeroAt (now run)) 0 n ≡ n ⌝ }
+    requires { ⌜ firstFrom (zeroAt (runTerm (now run))) 0 n ≡ n ⌝ }
     requires { ⌜ (idx + 1 + gap ≡ log .offset .0) × (held ≡ min n (lastOf log - idx)) ⌝ }
     ensures { λ r. ⌜ r ≡ alikeBefore log (now (settled .entry)) (now (pending .entry)) idx (now (run .entry)) n ⌝ }
 {
@@ -63,7 +62,7 @@ fn first_conflict(log: Log, settled: &[u64], pending: &[u64], idx: u64, run: &[u
     requires { ⌜ (n ≤ runCount (now run)) × (idx + n ≤ wordMax) ⌝ }
     requires { ⌜ Good log (now settled) (now pending) ⌝ }
     requires { ⌜ (log .start .0 ≤ idx) × (idx ≤ lastOf log) ⌝ }
-    requires { ⌜ firstFrom (zeroAt (now run)) 0 n ≡ n ⌝ }
+    requires { ⌜ firstFrom (zeroAt (runTerm (now run))) 0 n ≡ n ⌝ }
     ensures { λ r. ⌜ r ≡ alikeBefore log (now (settled .entry)) (now (pending .entry)) idx (now (run .entry)) n ⌝ }
 {
     let offset = log.offset.0;
@@ -138,7 +137,7 @@ fn matched(
 ) -> Appended
     requires { ⌜ Good log (now settled) (now pending) ⌝ }
     requires { ⌜ (n ≤ runCount (now run)) × (idx + n ≤ indexLimit) ⌝ }
-    requires { ⌜ firstFrom (zeroAt (now run)) 0 n ≡ n ⌝ }
+    requires { ⌜ firstFrom (zeroAt (runTerm (now run))) 0 n ≡ n ⌝ }
     ensures { λ r. ⌜ r ≡ matchRun log (now (settled .entry)) (now (pending .entry)) idx term commit (now (run .entry)) n ⌝ }
 {
     if is_outside(log, settled, pending, idx, term) {

@@ -24,14 +24,14 @@ use units::words::copy_at;
 use words::store_term;
 ghost use mathlib.Core.Path.{_≡_};
 ghost use Prim.Native.Nat.{_+_, _-_, _≤_, _<_};
-ghost use Rattle.raft_log.specs.Words.{room, firstFrom};
+ghost use Rattle.raft_log.specs.Words.{room, storeTerm, firstFrom, zeroAt};
 ghost use Rattle.raft_log.specs.Append.{maybeAppend, maybeAppendStore};
 ghost use Rattle.raft_log.specs.Extend.{appendRun, appendRunStore};
 ghost use Rattle.raft_log.specs.Commit.{commitTo, appliedTo, maybeCommit, maybePersist};
 ghost use Rattle.raft_log.specs.Settle.{stableEntries, stableEntriesStore};
 ghost use Rattle.raft_log.specs.Look.{lookTerm, firstIndex, lastIndex, lastTerm, findConflictByTerm, isUpToDate, commitInfo};
 ghost use Rattle.raft_log.specs.Slice.{sliceBounds, entriesBounds, hasNextEntriesSince, nextEntriesBoundsSince, storePart, partOf};
-ghost use Rattle.raft_log.specs.Setup.{zeroTermAt, setupOk, newLog};
+ghost use Rattle.raft_log.specs.Setup.{setupOk, newLog};
 
 // The state beside the stores: settled holds the records start + 1 to offset - 1, pending those from offset on.
 pub struct Log {
@@ -497,7 +497,7 @@ fn setup_ok(start: u64, start_term: u64, last: u64, settled: &[u64]) -> bool
 // The first of the n records of a store whose term is 0, n where none is.
 fn first_zero(store: &[u64], n: u64) -> u64
     requires { ⌜ n ≤ room (now store) ⌝ }
-    ensures { λ r. ⌜ r ≡ firstFrom (zeroTermAt (now (store .entry))) 0 n ⌝ }
+    ensures { λ r. ⌜ r ≡ firstFrom (zeroAt (storeTerm (now (store .entry)))) 0 n ⌝ }
 {
     let mut k = 0;
     while k < n {

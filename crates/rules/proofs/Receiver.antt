@@ -29,25 +29,26 @@ module _ (l : Log) where
   abbrev pub conflict-at : ℕ → List Entry → ℕ → Bool
   conflict-at i es j = conflicts l (i + j) (getD es j nothing)
 
+  -- step 3 by its first new entry; the others are those from i + 1 on
+  step-3-first : (i : ℕ) (e : Entry) (es : List Entry) {b : Bool} → conflict-at i (e ∷ es) 0 ≡ b → step-3 l i (e ∷ es) ≡ cond b (delete-from l i) (step-3 l (i + 1) es)
+  unfolding step-3
+  step-3-first i e es h = ap (λ (b : Bool). cond b (delete-from l i) (step-3 l (i + 1) es)) (ap (λ (x : ℕ). conflicts l x e) (omega arith) ∙ h)
+
+  further : (i : ℕ) (e : Entry) (es : List Entry) (j : ℕ) → conflict-at (i + 1) es j ≡ conflict-at i (e ∷ es) (suc j)
+  further i e es j = ap (λ (x : ℕ). conflicts l x (getD es j nothing)) (omega arith)
+
   pub step-3-keeps : (i : ℕ) (es : List Entry) → ((j : ℕ) → j < length es → conflict-at i es j ≡ false) → step-3 l i es ≡ l
   unfolding step-3
   step-3-keeps i [] h = refl
-  step-3-keeps i (e ∷ es) h =
-      ap (λ (b : Bool). cond b (delete-from l i) (step-3 l (i + 1) es)) (ap (λ (x : ℕ). conflicts l x e) (omega arith) ∙ h 0 (omega arith))
-      ∙ step-3-keeps (i + 1) es (λ j k. ap (λ (x : ℕ). conflicts l x (getD es j nothing)) (omega arith) ∙ h (suc j) (omega arith))
+  step-3-keeps i (e ∷ es) h = step-3-first i e es (h 0 (omega arith)) ∙ step-3-keeps (i + 1) es (λ j k. further i e es j ∙ h (suc j) (omega arith))
 
   pub step-3-deletes : (i k : ℕ) (es : List Entry) → k < length es
       → ((j : ℕ) → j < k → conflict-at i es j ≡ false) → conflict-at i es k ≡ true → step-3 l i es ≡ delete-from l (i + k)
-  unfolding step-3
-  step-3-deletes i k [] r h t = let z : ⊥ = omega arith in absurd z
-  step-3-deletes i zero (e ∷ es) r h t =
-      ap (λ (b : Bool). cond b (delete-from l i) (step-3 l (i + 1) es)) (ap (λ (x : ℕ). conflicts l x e) (omega arith) ∙ t)
-      ∙ ap (delete-from l) (omega arith)
+  step-3-deletes i k [] r h t = absurd (omega arith)
+  step-3-deletes i zero (e ∷ es) r h t = step-3-first i e es t ∙ ap (delete-from l) (omega arith)
   step-3-deletes i (suc k) (e ∷ es) r h t =
-      ap (λ (b : Bool). cond b (delete-from l i) (step-3 l (i + 1) es)) (ap (λ (x : ℕ). conflicts l x e) (omega arith) ∙ h 0 (omega arith))
-      ∙ step-3-deletes (i + 1) k es (omega arith)
-      (λ j q. ap (λ (x : ℕ). conflicts l x (getD es j nothing)) (omega arith) ∙ h (suc j) (omega arith))
-      (ap (λ (x : ℕ). conflicts l x (getD es k nothing)) (omega arith) ∙ t)
+      step-3-first i e es (h 0 (omega arith))
+      ∙ step-3-deletes (i + 1) k es (omega arith) (λ j q. further i e es j ∙ h (suc j) (omega arith)) (further i e es k ∙ t)
       ∙ ap (delete-from l) (omega arith)
 
   -- there is nothing to delete after the last

@@ -30,7 +30,7 @@ module _ {A : Type 0} (p q : A → Bool) (d : A) where
   -- more passes than voters: some voter passes both
   pub shared : (voters : List A) → length voters < count p voters + count q voters → Both p q voters d
   unfolding count
-  shared [] h = let z : ⊥ = omega arith in absurd z
+  shared [] h = absurd (omega arith)
   shared (v ∷ vs) h = shared-at v vs (p v) (q v) refl refl (shared vs) h
 
   -- THE THEOREM

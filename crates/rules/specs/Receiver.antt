@@ -8,7 +8,7 @@ use lib.ListN.{length, take, drop}
 use Rattle.rules.specs.Log.{Entry, Log, last, term-of}
 
 -- The arguments of figure 2: "prevLogIndex: index of log entry immediately preceding new ones", "prevLogTerm", "entries[]: log entries to store", the first at prevLogIndex + 1, "leaderCommit".
-pub record Message : Type 0 where
+pub record AppendEntries : Type 0 where
   pub prev-log-index : ℕ
   pub prev-log-term : ℕ
   pub entries : List Entry
@@ -49,11 +49,11 @@ unfoldable pub step-5 : ℕ → ℕ → ℕ → ℕ
 step-5 commit-index leader-commit last-new = cond (ltb commit-index leader-commit) (min leader-commit last-new) commit-index
 
 -- Step 5's "index of last new entry"; prevLogIndex where there is none.
-abbrev pub last-new : Message → ℕ
+abbrev pub last-new : AppendEntries → ℕ
 last-new m = m .prev-log-index + length (m .entries)
 
 -- THE STEPS, in order: "Reply false" by step 2, else what the other steps leave.
-unfoldable pub receiver : Log → ℕ → Message → Answer
+unfoldable pub receiver : Log → ℕ → AppendEntries → Answer
 receiver l commit-index m =
     cond (contains l (m .prev-log-index) (m .prev-log-term))
     (success

@@ -90,9 +90,7 @@ module _ (l after leader : Log) (idx : ℕ) (es : List Entry) (r : Received l id
       let terms : getD es j nothing .term ≡ term-of l (r .from) =
       ap (λ (x : Entry). x .term) (cut j long) ∙ ap (term-of leader) (sym place) ∙ sym (g .same (r .from) (omega (arith, held .0, r .above)) from .terms) in
       absurd (r .differs j long place (omega (arith, g .here .1)) terms))
-      (λ e.
-      let z : ⊥ = omega (arith, e .0, g .here .1) in
-      absurd z)
+      (λ e. absurd (omega (arith, e .0, g .here .1)))
       (r .end))
       (below-or-not k (r .from))
 
@@ -112,9 +110,7 @@ module _ (l after leader : Log) (idx : ℕ) (es : List Entry) (r : Received l id
       ⊎-elim
       (λ beyond.
       ⊎-elim
-      (λ e.
-      let z : ⊥ = omega (arith, e .1, here .1) in
-      absurd z)
+      (λ e. absurd (omega (arith, e .1, here .1)))
       as-before
       (r .end))
       (λ not-beyond. new-same j (hj .0) (omega arith))

@@ -42,12 +42,12 @@ module _ (P : Log → List ℕ → List ℕ → Type 0) (l : Log) (settled pendi
   settled-carries (changed.Now after) h = h
   settled-carries (changed.Refused n) h = before
 
-  pub extended-carries : (run : List ℕ) (a : Extended) → AfterExtended P a settled (appendRunStore a pending run) → P (logExtended a l) settled (appendRunStore a pending run)
+  extended-carries : (run : List ℕ) (a : Extended) → AfterExtended P a settled (appendRunStore a pending run) → P (logExtended a l) settled (appendRunStore a pending run)
   unfolding appendRunStore
   extended-carries run (extended.Last last after) h = h
   extended-carries run (extended.Refused n) h = before
 
-  pub appended-carries : (idx : ℕ) (run : List ℕ) (a : Appended) → AfterAppended P a settled (maybeAppendStore a pending idx run) → P (logAppended a l) settled (maybeAppendStore a pending idx run)
+  appended-carries : (idx : ℕ) (run : List ℕ) (a : Appended) → AfterAppended P a settled (maybeAppendStore a pending idx run) → P (logAppended a l) settled (maybeAppendStore a pending idx run)
   unfolding maybeAppendStore
   appended-carries idx run (appended.Done c k after) h = h
   appended-carries idx run (appended.Refused n) h = before
@@ -67,17 +67,17 @@ module _ (f : Follower) (s : Sound f) where
     appended-carries TermsSet l (f .settled) (f .pending) (s .1) (m .idx) (m .run) (answer-to f m) (maybe-append-terms l (f .settled) (f .pending) (s .1) (m .idx) (m .term) (m .commit) (m .run)),
   )
 
-  pub settled-sound : (i t : ℕ) → Sound (settled-by f (stableEntries l (f .settled) (f .pending) i t))
+  settled-sound : (i t : ℕ) → Sound (settled-by f (stableEntries l (f .settled) (f .pending) i t))
   settled-sound i t =
       let a : Changed = stableEntries l (f .settled) (f .pending) i t in
       (settled-carries Good l (f .settled) (f .pending) (s .0) a (stable-entries-keeps l (f .settled) (f .pending) i t), settled-carries TermsSet l (f .settled) (f .pending) (s .1) a (stable-entries-terms l (f .settled) (f .pending) (s .1) i t))
 
-  pub persisted-sound : (i t : ℕ) → Sound (with-log f (logDecided (maybePersist l (f .settled) (f .pending) i t) l))
+  persisted-sound : (i t : ℕ) → Sound (with-log f (logDecided (maybePersist l (f .settled) (f .pending) i t) l))
   persisted-sound i t =
       let a : Decided = maybePersist l (f .settled) (f .pending) i t in
       (decided-carries Good l (f .settled) (f .pending) (s .0) a (maybe-persist-keeps l (f .settled) (f .pending) i t), decided-carries TermsSet l (f .settled) (f .pending) (s .1) a (maybe-persist-terms l (f .settled) (f .pending) (s .1) i t))
 
-  pub applied-sound : (i : ℕ) → Sound (with-log f (logChanged (appliedTo l (f .settled) (f .pending) i) l))
+  applied-sound : (i : ℕ) → Sound (with-log f (logChanged (appliedTo l (f .settled) (f .pending) i) l))
   applied-sound i =
       let a : Changed = appliedTo l (f .settled) (f .pending) i in
       (changed-carries Good l (f .settled) (f .pending) (s .0) a (applied-to-keeps l (f .settled) (f .pending) i), changed-carries TermsSet l (f .settled) (f .pending) (s .1) a (applied-to-terms l (f .settled) (f .pending) (s .1) i))

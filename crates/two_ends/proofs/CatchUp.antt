@@ -10,18 +10,16 @@ use Rattle.units.specs.declared.Index.{Index}
 use Rattle.rules.specs.Log.{Entry, entry, nothing, Log as Abstract, whole-list, last, Agree}
 use Rattle.rules.specs.Receiver.{with-entries}
 use Rattle.raft_log.specs.declared.Log.{Log}
-use Rattle.raft_log.specs.declared.Appended.{Appended}
 use Rattle.raft_log.specs.declared.Appended.the-variants as appended
 use Rattle.log_laws.proofs.Views.{entry-after}
 use Rattle.two_ends.specs.Follower.{Follower, held, committed, Message, last-index, Receiver, engine, HasRoom, Between, does, Event, arrives, between, step, follow}
 use Rattle.two_ends.specs.Leader.{cut, CutFrom}
 use Rattle.two_ends.specs.TwoEnds.{Premises, Possible, HoldsPrevious, Accepts}
-use Rattle.two_ends.specs.CatchUp.{Besides, Round, total, next, sending, AtEach, CaughtUp, CatchUp}
-use Rattle.two_ends.proofs.Cuts.{cut-term, cut-last}
-use Rattle.two_ends.proofs.Tests.{engine-answer, done-passed, passed-done, refused-unchanged}
-use Rattle.two_ends.proofs.Carried.{between-sound}
+use Rattle.two_ends.specs.CatchUp.{Besides, Round, total, message-of, sending, AtEach, CaughtUp, CatchUp}
+use Rattle.two_ends.proofs.Cuts.{cut-term, cut-last, sent-cut}
+use Rattle.two_ends.proofs.Tests.{passed-done, after-message, taken-cut}
 use Rattle.two_ends.proofs.Taking.{Standing, premises-standing, named, Took, took, accepted-if, then-agree, message-standing, message-keeps}
-use Rattle.two_ends.proofs.Quiet.{quiet-standing, between-alike}
+use Rattle.two_ends.proofs.Quiet.{between-alike, between-standing}
 
 -- The follower after events, and then more of them.
 follow-on : (rcv : Receiver) (f : Follower) (es fs : List Event) → follow rcv f (es ++ fs) ≡ follow rcv (follow rcv f es) fs
@@ -74,18 +72,14 @@ module _ (xs : List Entry) (f : Follower) (p : Premises xs f) (commit : ℕ) whe
 
     -- ---- any message that may come
     message-now : Possible xs m → m .commit ≤ commit → Now after idx
-    message-now possible low = by-answer (engine g m .answer) refl
-      where
-        by-answer : (a : Appended) → engine g m .answer ≡ a → Now after idx
-        by-answer (appended.Done c k a) e = ⊎-elim (λ sent. kept sent low c k a e) (λ bad. absurd (bad (done-passed g m c k a (sym (engine-answer g m) ∙ e) .0 .formed))) possible
-        by-answer (appended.Refused n) e = subst (λ (h : Follower). Now h idx) (sym (refused-unchanged g m n e)) now
+    message-now possible low = after-message g m (λ h. Now h idx) now (λ c k a e. kept (taken-cut g m possible c k a e) low c k a e)
 
   -- ---- the next message: the follower holds the leader's record before it
   next-message : (g : Follower) (m : Message) → Now g (m .idx) → CutFrom xs m → m .commit ≡ commit → HasRoom g m → Accepts (engine g m) (last-index m) × Now (engine g m .follower) (last-index m)
   next-message g m now sent same room =
       let here = now .1 .agrees in
       let previous : HoldsPrevious g m = (here .here, here .same (m .idx) (here .here .0) (omega arith) .terms ∙ sym (cut-term sent)) in
-      let e = engine-answer g m ∙ passed-done g m (accepted-if xs (p .leader-terms) (p .leader-limit) g (now .0) m sent previous room) in
+      let e = passed-done g m (accepted-if xs (p .leader-terms) (p .leader-limit) g (now .0) m sent previous room) in
       let agrees = then-agree xs (p .leader-terms) (p .leader-limit) g (now .0) m sent _ _ _ e in
       let low : m .commit ≤ commit = omega arith in
       ((_, _, _, e, refl), counted g (m .idx) now m sent low _ _ _ e (last-index m) agrees (omega (arith, now .1 .floor, took g m _ _ _ e .committed-is)))
@@ -95,7 +89,7 @@ module _ (xs : List Entry) (f : Follower) (p : Premises xs f) (commit : ℕ) whe
   between-now g idx now b =
       let same = between-alike g b in
       let level = subst (λ (c : ℕ). Upto (held g) c idx) (sym (same .1)) (now .1) in
-      (quiet-standing xs g (does g b) (same .0) (same .1) (now .0) (between-sound g (now .0 .sound) b), subst (λ (l : Abstract). Upto l (committed (does g b)) idx) (sym (same .0)) level)
+      (between-standing g (now .0) b, subst (λ (l : Abstract). Upto l (committed (does g b)) idx) (sym (same .0)) level)
 
   others-now : (g : Follower) (idx : ℕ) → Now g idx → (es : List Event) → Besides xs commit es → Now (follow engine g es) idx
   unfolding follow
@@ -106,11 +100,11 @@ module _ (xs : List Entry) (f : Follower) (p : Premises xs f) (commit : ℕ) whe
   -- ---- the rounds, from idx on
   all-rounds : (g : Follower) (idx : ℕ) → Now g idx → (rounds : List (Round xs commit)) → idx + total rounds ≡ length xs → AtEach HasRoom engine g idx rounds
       → AtEach (λ h m. Accepts (engine h m) (last-index m)) engine g idx rounds × Now (follow engine g (sending idx rounds)) (length xs)
-  unfolding follow cut total sending AtEach
+  unfolding follow cut sent-cut total sending AtEach
   all-rounds g idx now [] sum room = (tt, subst (Now g) (omega arith) now)
   all-rounds g idx now (r ∷ rs) sum room =
-      let sent : CutFrom xs (next idx r) = record { count = r .count; inside = omega arith; is = refl } in
-      let a = next-message g (next idx r) now sent refl (room .0) in
+      let sent = sent-cut xs idx (r .count) commit (omega arith) in
+      let a = next-message g (message-of idx r) now sent refl (room .0) in
       let b = others-now _ (idx + r .count) (subst (Now _) (cut-last sent) (a .1)) (r .others) (r .besides) in
       let d = all-rounds _ (idx + r .count) b rs (omega arith) (room .1) in
       ((a .0, d .0), subst (λ (h : Follower). Now h (length xs)) (sym (follow-on engine _ (r .others) (sending (idx + r .count) rs))) (d .1))
@@ -139,8 +133,8 @@ catch-up xs f p commit rounds sum room =
 -- ALL AT ONCE: one message with all the n records that are left.
 pub at-once : (xs : List Entry) (f : Follower) → Premises xs f → (commit n : ℕ) → committed f + n ≡ length xs → HasRoom f (cut xs (committed f) n commit)
     → Accepts (engine f (cut xs (committed f) n commit)) (length xs) × CaughtUp xs commit f (engine f (cut xs (committed f) n commit) .follower)
-unfolding follow cut total sending AtEach CatchUp
+unfolding follow cut sent-cut total sending AtEach CatchUp
 at-once xs f p commit n all room =
-    let sent : CutFrom xs (cut xs (committed f) n commit) = record { count = n; inside = omega arith; is = refl } in
+    let sent = sent-cut xs (committed f) n commit (omega arith) in
     let r = catch-up xs f p commit (record { count = n; others = []; besides = tt } ∷ []) (omega arith) (room, tt) in
     (subst (Accepts (engine f (cut xs (committed f) n commit))) (cut-last sent ∙ all) (r .0 .0), r .1)

@@ -10,8 +10,8 @@ use borrow.Author.Tests.{eq-eqb, ne-eqb, le-leb}
 use Rattle.units.specs.Units.{indexLimit}
 use Rattle.units.proofs.Lists.{length-listed, at-listed}
 use Rattle.rules.specs.Log.{Entry, entry, nothing, whole-list, records-after, entry-at, term-of}
-use Rattle.raft_log.specs.Words.{runWords, runCount, runIndex, runTerm, none}
-use Rattle.raft_log.specs.Run.{misplaced, zeroAt, numbered, termsSet}
+use Rattle.raft_log.specs.Words.{runWords, runCount, runIndex, runTerm, none, zeroAt}
+use Rattle.raft_log.specs.Run.{misplaced, numbered, termsSet}
 use Rattle.raft_log.proofs.Searching.{same-not, below-none}
 use Rattle.log_laws.specs.View.{runEntry, runEntries}
 use Rattle.log_laws.specs.Keep.{NonzeroTerms}
@@ -83,7 +83,7 @@ as-run-numbered idx es h =
 pub as-run-terms : (i : ℕ) (es : List Entry) → ((k : ℕ) → k < length es → 0 < getD es k nothing .term) → termsSet (as-run i es) ≡ true
 unfolding termsSet
 as-run-terms i es h =
-    none-of i es (zeroAt (as-run i es)) (λ k r. ne-eqb (runTerm (as-run i es) k) 0 (λ z. omega (arith, h k r, ap (λ (e : Entry). e .term) (as-run-entry i es k r))))
+    none-of i es (zeroAt (runTerm (as-run i es))) (λ k r. ne-eqb (runTerm (as-run i es) k) 0 (λ z. omega (arith, h k r, ap (λ (e : Entry). e .term) (as-run-entry i es k r))))
 
 -- ---- the records after an index of the list
 
@@ -161,6 +161,6 @@ cut-grown xs ys m c =
     record { count = c .count; inside = omega (arith, c .inside, length-append xs ys); is = c .is ∙ sym same }
 
 -- what is cut within the list is a cut of it
-pub sent-cut : (xs : List Entry) (idx n commit : ℕ) → idx + n ≤ length xs → CutFrom xs (cut xs idx n commit)
+unfoldable pub sent-cut : (xs : List Entry) (idx n commit : ℕ) → idx + n ≤ length xs → CutFrom xs (cut xs idx n commit)
 unfolding cut
 sent-cut xs idx n commit h = record { count = n; inside = h; is = refl }

@@ -3,28 +3,26 @@ use Prim.Native.Nat.{ℕ, _≤_}
 use mathlib.Core.Path.{_≡_, refl, sym, ap, subst, _∙_}
 use mathlib.Core.Bool.{false}
 use mathlib.Core.List.{List, [], _∷_}
-use mathlib.Core.Logic.{_⊎_, ⊎-elim}
+use mathlib.Core.Logic.{inl, ⊎-elim}
 use native.Mathlib.Omega.{arith}
 use lib.ListN.{length}
 use Rattle.units.specs.Units.{indexLimit, indexOf}
 use Rattle.units.specs.Refusals.{misnumberedRun, zeroTerm, cutsCommitted}
 use Rattle.units.specs.declared.Index.{Index}
 use Rattle.rules.specs.Log.{Entry, whole-list, Agree}
-use Rattle.raft_log.specs.declared.Appended.{Appended}
 use Rattle.raft_log.specs.declared.Appended.the-variants as appended
 use Rattle.raft_log.specs.State.{broken}
 use Rattle.raft_log.proofs.States.{not-both, good-whole}
 use Rattle.raft_log.proofs.Appending.{other-refusal}
 use Rattle.log_laws.specs.Keep.{NonzeroTerms}
-use Rattle.two_ends.specs.Follower.{Follower, held, Message, last-index, WellFormed, Receiver, answer-to, engine, HasRoom, Between, does, Event, arrives, between, follow}
+use Rattle.two_ends.specs.Follower.{Follower, held, Message, last-index, Receiver, engine, HasRoom, Between, does, Event, arrives, between, follow}
 use Rattle.two_ends.specs.Leader.{CutFrom}
 use Rattle.two_ends.specs.TwoEnds.{Possible, Trace, HoldsPrevious, Accepts, OfMessage, Keeps, TwoEnds, Theorem, NeverDiffer}
 use Rattle.two_ends.proofs.Agreeing.{same-third}
 use Rattle.two_ends.proofs.Cuts.{cut-well-formed}
-use Rattle.two_ends.proofs.Tests.{engine-answer, done-passed, passed-done, six-cuts, one-broken, malformed-refused, refused-unchanged}
-use Rattle.two_ends.proofs.Carried.{between-sound}
+use Rattle.two_ends.proofs.Tests.{done-passed, passed-done, six-cuts, one-broken, malformed-refused, refused-unchanged, after-message, taken-cut}
 use Rattle.two_ends.proofs.Taking.{Standing, premises-standing, keeps-refl, keeps-trans, accepted-if, tests-hold, spared, held-before, then-agree, message-standing, message-keeps}
-use Rattle.two_ends.proofs.Quiet.{quiet-standing, quiet-keeps, between-alike}
+use Rattle.two_ends.proofs.Quiet.{quiet-keeps, between-alike, between-standing}
 
 module _ (xs : List Entry) (leader-terms : NonzeroTerms (whole-list xs)) (leader-limit : length xs ≤ indexLimit) where
   -- The follower stands as it did, and has kept what it had.
@@ -36,46 +34,34 @@ module _ (xs : List Entry) (leader-terms : NonzeroTerms (whole-list xs)) (leader
 
   -- ---- one message
   module _ (f : Follower) (st : Standing xs f) (m : Message) where
-    unchanged : (n : ℕ) → engine f m .answer ≡ appended.Refused n → Stays f (engine f m .follower)
-    unchanged n e = subst (Stays f) (sym (refused-unchanged f m n e)) (st, keeps-refl xs f)
-
-    cut-stays : CutFrom xs m → Stays f (engine f m .follower)
-    cut-stays cut = by-answer (engine f m .answer) refl
-      where
-        by-answer : (a : Appended) → engine f m .answer ≡ a → Stays f (engine f m .follower)
-        by-answer (appended.Done c k a) e = (message-standing xs leader-terms leader-limit f st m cut c k a e, message-keeps xs leader-terms leader-limit f st m cut c k a e)
-        by-answer (appended.Refused n) e = unchanged n e
-
-    bad-stays : (WellFormed m → ⊥) → Stays f (engine f m .follower)
-    bad-stays bad = ⊎-elim (λ e. unchanged misnumberedRun (engine-answer f m ∙ e)) (λ e. unchanged zeroTerm (engine-answer f m ∙ e)) (malformed-refused f m (whole f st) bad)
-
     message-stays : Possible xs m → Stays f (engine f m .follower)
-    message-stays = ⊎-elim cut-stays bad-stays
+    message-stays possible =
+        after-message f m (Stays f) (st, keeps-refl xs f) (λ c k a e.
+        let cut = taken-cut f m possible c k a e in
+        (message-standing xs leader-terms leader-limit f st m cut c k a e, message-keeps xs leader-terms leader-limit f st m cut c k a e))
 
     -- accepted exactly when the previous record is held with that term, and there is room
     module _ (cut : CutFrom xs m) where
       accepts-if : HoldsPrevious f m × HasRoom f m → (k : ℕ) × Accepts (engine f m) k
-      accepts-if h =
-          let e = passed-done f m (accepted-if xs leader-terms leader-limit f st m cut (h .0) (h .1)) in
-          (last-index m, (_, _, _, engine-answer f m ∙ e, refl))
+      accepts-if h = (last-index m, (_, _, _, passed-done f m (accepted-if xs leader-terms leader-limit f st m cut (h .0) (h .1)), refl))
 
       only-if : (k : ℕ) × Accepts (engine f m) k → HoldsPrevious f m × HasRoom f m
-      only-if (k, (c, n, a, e, q)) = (held-before xs leader-terms leader-limit f st m cut c n a e, done-passed f m c n a (sym (engine-answer f m) ∙ e) .0 .room)
+      only-if (k, (c, n, a, e, q)) = (held-before xs leader-terms leader-limit f st m cut c n a e, done-passed f m c n a e .0 .room)
 
       named : (k : ℕ) → Accepts (engine f m) k → k ≡ last-index m
       named k (c, n, a, e, q) =
-          let same = done-passed f m c n a (sym (engine-answer f m) ∙ e) .1 in
+          let same = done-passed f m c n a e .1 in
           let index : indexOf (last-index m) ≡ n = cc same in
           sym q ∙ ap (λ (i : Index). i .0) (sym index)
 
       no-six : engine f m .answer ≡ appended.Refused cutsCommitted → ⊥
       no-six e =
-          let t = six-cuts f m (sym (engine-answer f m) ∙ e) in
+          let t = six-cuts f m e in
           not-both (t .2) (spared xs leader-terms leader-limit f st m cut (tests-hold xs leader-terms leader-limit f st m cut (t .0) (t .1)))
 
     -- a malformed message gets another number
-    other-number : (n : ℕ) → (n ≡ cutsCommitted → ⊥) → answer-to f m ≡ appended.Refused n → engine f m .answer ≡ appended.Refused cutsCommitted → ⊥
-    other-number n unlike e h = other-refusal unlike (sym e ∙ sym (engine-answer f m) ∙ h)
+    other-number : (n : ℕ) → (n ≡ cutsCommitted → ⊥) → engine f m .answer ≡ appended.Refused n → engine f m .answer ≡ appended.Refused cutsCommitted → ⊥
+    other-number n unlike e h = other-refusal unlike (sym e ∙ h)
 
     never-six : Possible xs m → engine f m .answer ≡ appended.Refused cutsCommitted → ⊥
     never-six = ⊎-elim no-six (λ bad. ⊎-elim (other-number misnumberedRun (λ q. omega arith)) (other-number zeroTerm (λ q. omega arith)) (malformed-refused f m (whole f st) bad))
@@ -85,17 +71,17 @@ module _ (xs : List Entry) (leader-terms : NonzeroTerms (whole-list xs)) (leader
       accepts = λ cut. (only-if cut, accepts-if cut);
       names = named;
       no-conflict = never-six;
-      no-broken = λ p e. not-both (one-broken f m (sym (engine-answer f m) ∙ e)) (whole f st);
+      no-broken = λ p e. not-both (one-broken f m e) (whole f st);
       refused-same = refused-unchanged f m;
       well-formed = cut-well-formed leader-terms leader-limit;
-      malformed = λ bad. subst (λ (a : Appended). (a ≡ appended.Refused misnumberedRun) ⊎ (a ≡ appended.Refused zeroTerm)) (sym (engine-answer f m)) (malformed-refused f m (whole f st) bad);
+      malformed = malformed-refused f m (whole f st);
     }
 
   -- ---- any events
   between-stays : (f : Follower) → Standing xs f → (b : Between) → Stays f (does f b)
   between-stays f st b =
       let same = between-alike f b in
-      (quiet-standing xs f (does f b) (same .0) (same .1) st (between-sound f (st .sound) b), quiet-keeps xs f (does f b) (same .0) (same .1))
+      (between-standing f st b, quiet-keeps xs f (does f b) (same .0) (same .1))
 
   follow-stays : (f : Follower) → Standing xs f → (es : List Event) → Trace xs es → Stays f (follow engine f es)
   unfolding follow
@@ -128,7 +114,7 @@ module _ (xs : List Entry) (leader-terms : NonzeroTerms (whole-list xs)) (leader
       holds es t m cut k (c, n, a, e, q) fs u =
           let g = follow engine f es in
           let then = then-agree xs leader-terms leader-limit g (now es t) m cut c n a e in
-          let stays = cut-stays g (now es t) m cut in
+          let stays = message-stays g (now es t) m (inl cut) in
           let kept = follow-stays (engine g m .follower) (stays .0) fs u .1 .keeps (last-index m) then in
           subst (Agree (held (follow engine (engine g m .follower) fs)) (whole-list xs)) (sym (named g (now es t) m cut k (c, n, a, e, q))) kept
 

@@ -1,7 +1,7 @@
 -- What the paper's steps 3 and 4 leave of a log that contains the message's previous entry, index by index: up to some index its own records, from there on the message's.
 use Prim.Native.Nat.{ℕ, suc, _+_, _-_, _≤_, _<_}
 use mathlib.Core.Path.{_≡_, refl, sym, ap, subst, _∙_}
-use mathlib.Core.Bool.{Bool, true, false, not, cond, _&&_}
+use mathlib.Core.Bool.{Bool, true, false, not, cond, _&&_, and-eq-true-iff}
 use mathlib.Core.List.{List, _∷_}
 use mathlib.Core.Logic.{_⊎_, ⊎-elim, inl, inr}
 use native.Mathlib.Omega.{arith}
@@ -13,7 +13,6 @@ use Rattle.rules.specs.Log.{Entry, entry, nothing, Log, last, entry-at, term-of
 use Rattle.rules.specs.Receiver.{contains, conflicts, delete-from, step-3, step-4}
 use Rattle.rules.proofs.Receiver.{contains-holds, conflict-at, step-3-keeps, step-3-deletes, delete-none, cut-on, cut-length, steps}
 use Rattle.raft_log.specs.Words.{firstFrom}
-use Rattle.raft_log.proofs.States.{split}
 use Rattle.raft_log.proofs.Searching.{found}
 use Rattle.units.proofs.Numbers.{below-or-not}
 
@@ -67,8 +66,8 @@ module _ (l : Log) (i : ℕ) (e : Entry) where
   -- where e conflicts, the log has a record at i, of another term
   conflict : conflicts l i e ≡ true → (i ≤ last l) × (e .term ≡ term-of l i → ⊥)
   conflict h =
-      let both = split (ltb (l .start) i && leb i (last l)) (not (eqb (e .term) (term-of l i))) h in
-      (leb-true _ _ (split (ltb (l .start) i) (leb i (last l)) (both .0) .1), eqb-false _ _ (not-true _ (both .1)))
+      let both = and-eq-true-iff (ltb (l .start) i && leb i (last l)) (not (eqb (e .term) (term-of l i))) .0 h in
+      (leb-true _ _ (and-eq-true-iff (ltb (l .start) i) (leb i (last l)) .0 (both .0) .1), eqb-false _ _ (not-true _ (both .1)))
 
 -- ---- the steps
 

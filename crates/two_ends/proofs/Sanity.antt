@@ -21,11 +21,13 @@ use Rattle.raft_log.specs.Settle.{stableEntries, stableEntriesStore}
 use Rattle.raft_log.specs.Setup.{fresh, setupOk, newLog}
 use Rattle.log_laws.specs.View.{view-of}
 use Rattle.log_laws.specs.Keep.{NonzeroTerms}
+use Rattle.log_laws.proofs.Nonzero.{set-nonzero}
 use Rattle.two_ends.specs.Follower.{Follower, held, Message, engine, settles, persists, applies, does, follow, Made, set-up, by-maybe-append, by-between}
 use Rattle.two_ends.specs.Leader.{as-run, cut, CutFrom}
 use Rattle.two_ends.specs.TwoEnds.{Premises}
 use Rattle.two_ends.specs.Sanity.{leader, follower, late, third, third-and-fourth, heartbeat, from-zero, corrected}
 use Rattle.two_ends.proofs.Agreeing.{agree-down}
+use Rattle.two_ends.proofs.Cuts.{sent-cut}
 
 -- What the concrete facts compute through, all of it: to name this on an `unfolding` line is to open each.
 unfoldable pub concrete : Unit {0}
@@ -59,12 +61,7 @@ late-made = set-up 2 1 3 _ _ _ refl
 
 leader-terms : NonzeroTerms (whole-list leader)
 unfolding concrete
-leader-terms zero a b = absurd (omega arith)
-leader-terms (suc zero) a b = lit< tt
-leader-terms (suc (suc zero)) a b = lit< tt
-leader-terms (suc (suc (suc zero))) a b = lit< tt
-leader-terms (suc (suc (suc (suc zero)))) a b = lit< tt
-leader-terms (suc (suc (suc (suc (suc i))))) a b = absurd (omega arith)
+leader-terms = set-nonzero (whole-list leader) (lit< tt, (lit< tt, (lit< tt, (lit< tt, tt))))
 
 -- A log of three records that has the leader's up to the second, and a third of term 1, matches the leader's list: nothing is asked above the second.
 matching-but-third : (a : Log) → last a ≡ 3 → term-of a 3 ≡ 1 → Agree a (whole-list leader) 2 → Matching a (whole-list leader)
@@ -125,19 +122,19 @@ late-premises = record {
 
 pub third-cut : CutFrom leader third
 unfolding concrete
-third-cut = record { count = 1; inside = lit≤ tt; is = refl }
+third-cut = sent-cut leader 2 1 9 (lit≤ tt)
 
 pub third-and-fourth-cut : CutFrom leader third-and-fourth
 unfolding concrete
-third-and-fourth-cut = record { count = 2; inside = lit≤ tt; is = refl }
+third-and-fourth-cut = sent-cut leader 2 2 0 (lit≤ tt)
 
 pub heartbeat-cut : CutFrom leader heartbeat
 unfolding concrete
-heartbeat-cut = record { count = 0; inside = lit≤ tt; is = refl }
+heartbeat-cut = sent-cut leader 1 0 3 (lit≤ tt)
 
 pub from-zero-cut : CutFrom leader from-zero
 unfolding concrete
-from-zero-cut = record { count = 0; inside = lit≤ tt; is = refl }
+from-zero-cut = sent-cut leader 0 0 0 (lit≤ tt)
 
 -- The engine reports the conflict at 3, names 3, and has the leader's third record in place of the other.
 pub third-received : engine follower third ≡ record { answer = Done (indexOf 3) (indexOf 3) (corrected .log); follower = corrected }

@@ -1,7 +1,7 @@
 -- A message of the leader's at the follower: when it is accepted, and that what stands between the two ends stands after it, and what the follower had of the leader's it keeps.
 use Prim.Native.Nat.{ℕ, _+_, _≤_, _<_, min, max}
 use mathlib.Core.Path.{_≡_, refl, sym, ap, ap₂, subst, _∙_}
-use mathlib.Core.Bool.{Bool, true, false, not, _||_}
+use mathlib.Core.Bool.{Bool, true, false, not, _||_, and-eq-true-iff}
 use mathlib.Core.List.{List}
 use mathlib.Core.Logic.{⊎-elim}
 use native.Mathlib.Omega.{arith}
@@ -23,7 +23,7 @@ use Rattle.raft_log.specs.Words.{runCount, runTerm}
 use Rattle.raft_log.specs.State.{Good, termAt}
 use Rattle.raft_log.specs.Append.{differs, cuts, outside, mismatched, matchRun, maybeAppend}
 use Rattle.raft_log.proofs.Searching.{found, same-not}
-use Rattle.raft_log.proofs.States.{split, refuted, not-both, neither, good-whole}
+use Rattle.raft_log.proofs.States.{refuted, not-both, neither, good-whole}
 use Rattle.log_laws.specs.View.{runEntry, runEntries}
 use Rattle.log_laws.specs.Keep.{NonzeroTerms}
 use Rattle.log_laws.proofs.Views.{view-term}
@@ -34,7 +34,7 @@ use Rattle.two_ends.specs.TwoEnds.{Premises, HoldsPrevious, Keeps}
 use Rattle.two_ends.proofs.Received.{Received, received}
 use Rattle.two_ends.proofs.Agreeing.{agree-down, new-agree, agree-below, keep-agree, keep-matching}
 use Rattle.two_ends.proofs.Cuts.{records-length, records-at, cut-term, cut-count, cut-entries, cut-well-formed}
-use Rattle.two_ends.proofs.Tests.{Passed}
+use Rattle.two_ends.proofs.Tests.{AllPassed}
 use Rattle.two_ends.proofs.Carried.{Sound, received-sound, made-sound}
 
 -- What stands between the two ends at every moment.
@@ -118,7 +118,7 @@ module _ (xs : List Entry) (leader-terms : NonzeroTerms (whole-list xs)) (leader
   -- a conflict is above committed, since up to there the follower has the leader's records
   pub spared : HoldsPrevious f m → cuts (f .log) (m .idx) (runCount (m .run)) (alike f m) ≡ false
   spared h = refuted _ (λ e.
-      let t = split _ _ e in
+      let t = and-eq-true-iff _ _ .0 e in
       let some : alike f m < runCount (m .run) = ltb-true _ _ (t .0) in
       let low : m .idx + 1 + alike f m ≤ committed f = leb-true _ _ (t .1) in
       let long : alike f m < length new = omega (arith, new-length, cut-count cut) in
@@ -134,7 +134,7 @@ module _ (xs : List Entry) (leader-terms : NonzeroTerms (whole-list xs)) (leader
   pub tests-hold : outside (f .log) (m .idx) (m .term) ≡ false → mismatched (f .log) (f .settled) (f .pending) (m .idx) (m .term) ≡ false → HoldsPrevious f m
   tests-hold a b = contains-holds (held f) (m .idx) (m .term) .0 (step-2-is (f .log) (f .settled) (f .pending) good (m .idx) (m .term) ∙ ap₂ (λ (x y : Bool). not (x || y)) a b)
 
-  pub accepted-if : HoldsPrevious f m → HasRoom f m → Passed f m
+  pub accepted-if : HoldsPrevious f m → HasRoom f m → AllPassed f m
   accepted-if h room =
       let b = neither (outside (f .log) (m .idx) (m .term)) (mismatched (f .log) (f .settled) (f .pending) (m .idx) (m .term)) (sym (step-2-is (f .log) (f .settled) (f .pending) good (m .idx) (m .term)) ∙ contains-holds (held f) (m .idx) (m .term) .1 h) in
       record { whole = good-whole (f .log) (f .settled) (f .pending) good; formed = cut-well-formed leader-terms leader-limit cut; inside = b .0; matches = b .1; spares = spared h; room = room }

@@ -31,18 +31,18 @@ module _ {xs : List Entry} {commit : ℕ} where
   total (r ∷ rs) = r .count + total rs
 
   -- The round's message, where the records up to idx have been sent: one of the "messages cut from it".
-  abbrev pub next : ℕ → Round xs commit → Message
-  next idx r = cut xs idx (r .count) commit
+  abbrev pub message-of : ℕ → Round xs commit → Message
+  message-of idx r = cut xs idx (r .count) commit
 
   -- All that happens in the rounds from there on. For `CatchUp`.
   unfoldable pub sending : ℕ → List (Round xs commit) → List Event
   sending idx [] = []
-  sending idx (r ∷ rs) = arrives (next idx r) ∷ r .others ++ sending (idx + r .count) rs
+  sending idx (r ∷ rs) = arrives (message-of idx r) ∷ r .others ++ sending (idx + r .count) rs
 
   -- P holds of each round's message and of the follower that it comes to. For `CatchUp`: it "has room", and accepts.
   unfoldable pub AtEach : (Follower → Message → Type 0) → Receiver → Follower → ℕ → List (Round xs commit) → Type 0
   AtEach P rcv f idx [] = Unit {0}
-  AtEach P rcv f idx (r ∷ rs) = P f (next idx r) × AtEach P rcv (follow rcv f (arrives (next idx r) ∷ r .others)) (idx + r .count) rs
+  AtEach P rcv f idx (r ∷ rs) = P f (message-of idx r) × AtEach P rcv (follow rcv f (arrives (message-of idx r) ∷ r .others)) (idx + r .count) rs
 
 -- What has come of a follower that was f and is g: it "holds exactly the leader's records".
 pub record CaughtUp (xs : List Entry) (commit : ℕ) (f g : Follower) : Type 0 where

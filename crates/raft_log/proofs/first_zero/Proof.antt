@@ -3,13 +3,13 @@ use mathlib.Core.Path.{sym, _∙_}
 use Prim.Native.Nat.{_-_}
 use native.Mathlib.Omega.{arith}
 use borrow.Author.Tests.{eq-eqb, ne-eqb}
-use Rattle.raft_log.specs.Setup.{zeroTermAt}
+use Rattle.raft_log.specs.Words.{storeTerm, zeroAt}
 use Rattle.raft_log.proofs.Searching.{Seek, seek-start, seek-next, seek-hit, seek-end}
 use Rattle.raft_log.proofs.first_zero.Statement.{statement}
 use Rattle.raft_log.proofs.first_zero.Tie as tie
 
 abbrev Inv-loop : tie.InvT-loop
-Inv-loop store n k₀ k = Seek (zeroTermAt store) n k
+Inv-loop store n k₀ k = Seek (zeroAt (storeTerm store)) n k
 
 abbrev μ-loop : tie.MeasureT-loop
 μ-loop store n k₀ k = n - k

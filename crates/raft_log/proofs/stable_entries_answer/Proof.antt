@@ -1,9 +1,10 @@
--- `stable_entries_answer` meets its contract: each answer has its law.
+-- `stable_entries_answer` meets its contract: refusal 1, or each answer has its law.
 use mathlib.Core.Path.{sym, _∙_}
 use native.Mathlib.Omega.{arith}
 use borrow.Author.Needs.{needs}
+use Rattle.raft_log.specs.Settle.{stableEntries}
 use Rattle.raft_log.proofs.States.{passed, test-says}
-use Rattle.raft_log.proofs.Settling.{settle-broken, settle-full, settle-other, settle-done}
+use Rattle.raft_log.proofs.Settling.{settle-full, settle-other, settle-done}
 use Rattle.raft_log.proofs.stable_entries_answer.Statement.{statement}
 use Rattle.raft_log.proofs.stable_entries_answer.Tie as tie
 
@@ -11,7 +12,8 @@ state-ok-requires : tie.Need-state-ok-requires
 state-ok-requires c κs = search needs
 
 returns : tie.Need-returns
-returns c = sym (settle-broken _ _ _ _ _ (test-says _ _ _ (c .before .state-ok .ensures) (c .if1 .taken)))
+unfolding stableEntries
+returns c = simp (test-says _ _ _ (c .before .state-ok .ensures) (c .if1 .taken))
 
 last-of-requires : tie.Need-last-of-requires
 last-of-requires c κs = passed (c .before .state-ok .ensures) (c .if1 .left)

@@ -1,10 +1,11 @@
 -- `append` meets its contract: the answer is decided first, and what it says is what the copy asks.
-use Rattle.raft_log.proofs.Extending.{extend-cut, store-refused, store-empty, store-put}
+use Rattle.raft_log.proofs.Extending.{Extends, extend-cut, store-refused, store-empty, store-put}
 use native.Mathlib.Omega.{arith}
 use mathlib.Core.Path.{_≡_, sym, _∙_}
 use mathlib.Core.List.{List}
 use Prim.Native.Nat.{ℕ, _-_}
-use Rattle.raft_log.specs.Words.{runCount, runIndex, putRun}
+use Rattle.raft_log.specs.Words.{room, runCount, runIndex, putRun}
+use Rattle.raft_log.specs.Extend.{firstOf}
 use borrow.Author.Needs.{needs}
 use Rattle.raft_log.proofs.Log.append.Statement.{statement}
 use Rattle.raft_log.proofs.Log.append.Tie as tie
@@ -13,6 +14,14 @@ use Rattle.raft_log.proofs.Log.append.Tie as tie
 put-read : (s run : List ℕ) (offset : ℕ) {first n : ℕ} → first ≡ runIndex run 0 → n ≡ runCount run
     → putRun s (first - offset) run 0 n ≡ putRun s (runIndex run 0 - offset) run 0 (runCount run)
 put-read s run offset e f = cc
+
+-- what the answer says to the copy, once the run is known to have records
+cut : (e : tie.Else1) → let k = e .before .before in
+    let a = k .before .before .before .before .before .before .before .args in
+    Extends (room (a .pending .now)) (firstOf (a .run .now)) (runCount (a .run .now)) (k .answer .given .0 .1 .0)
+cut e =
+    let k = e .before .before in
+    extend-cut _ _ _ _ (sym (k .before .before .append-run-answer .ensures) ∙ k .answer .given .1) (e .if1 .left)
 
 append-run-answer-requires : tie.Need-append-run-answer-requires
 append-run-answer-requires c κs = search needs
@@ -41,21 +50,13 @@ run-index-requires : tie.Need-run-index-requires
 run-index-requires c κs = search needs
 
 sub-at : tie.Need-sub-at
-sub-at c =
-    let e = c .before .before in
-    let k = e .before .before in
-    let cut = extend-cut _ _ _ _ (sym (k .before .before .append-run-answer .ensures) ∙ k .answer .given .1) (e .if1 .left) in
-    omega arith
+sub-at c = let known = cut (c .before .before) in omega arith
 
 run-count-requires : tie.Need-run-count-requires
 run-count-requires c κs = search needs
 
 put-run-requires : tie.Need-put-run-requires
-put-run-requires c κs =
-    let e = c .before .before .before .before in
-    let k = e .before .before in
-    let cut = extend-cut _ _ _ _ (sym (k .before .before .append-run-answer .ensures) ∙ k .answer .given .1) (e .if1 .left) in
-    omega arith
+put-run-requires c κs = let known = cut (c .before .before .before .before) in omega arith
 
 same-length-3 : tie.Need-same-length-3
 same-length-3 c = search needs

@@ -1,9 +1,10 @@
--- `applied_to` meets its contract: each answer has its law in Commits.
+-- `applied_to` meets its contract: refusal 1, or each answer has its law in Commits.
 use mathlib.Core.Path.{sym}
 use native.Mathlib.Omega.{arith}
 use borrow.Author.Needs.{needs}
+use Rattle.raft_log.specs.Commit.{appliedTo}
 use Rattle.raft_log.proofs.States.{test-says}
-use Rattle.raft_log.proofs.Commits.{applied-refused, applied-zero, applied-beyond, applied-back, applied-up}
+use Rattle.raft_log.proofs.Commits.{applied-zero, applied-beyond, applied-back, applied-up}
 use Rattle.raft_log.proofs.Log.applied_to.Statement.{statement}
 use Rattle.raft_log.proofs.Log.applied_to.Tie as tie
 
@@ -11,7 +12,8 @@ state-ok-requires : tie.Need-state-ok-requires
 state-ok-requires c κs = search needs
 
 returns : tie.Need-returns
-returns c = sym (applied-refused _ _ _ (test-says _ _ _ (c .before .state-ok .ensures) (c .if1 .taken)) _)
+unfolding appliedTo
+returns c = simp (test-says _ _ _ (c .before .state-ok .ensures) (c .if1 .taken))
 
 returns-2 : tie.Need-returns-2
 returns-2 c = sym (applied-zero _ _ _ (test-says _ _ _ (c .before .before .state-ok .ensures) (c .before .if1 .left)) _ (omega arith))

@@ -1,9 +1,10 @@
--- `commit_to` meets its contract: each answer has its law in Commits.
+-- `commit_to` meets its contract: refusal 1, or each answer has its law in Commits.
 use mathlib.Core.Path.{sym}
 use native.Mathlib.Omega.{arith}
 use borrow.Author.Needs.{needs}
+use Rattle.raft_log.specs.Commit.{commitTo}
 use Rattle.raft_log.proofs.States.{passed, test-says}
-use Rattle.raft_log.proofs.Commits.{commit-refused, commit-below, commit-beyond, commit-up}
+use Rattle.raft_log.proofs.Commits.{commit-below, commit-beyond, commit-up}
 use Rattle.raft_log.proofs.Log.commit_to.Statement.{statement}
 use Rattle.raft_log.proofs.Log.commit_to.Tie as tie
 
@@ -11,7 +12,8 @@ state-ok-requires : tie.Need-state-ok-requires
 state-ok-requires c κs = search needs
 
 returns : tie.Need-returns
-returns c = sym (commit-refused _ _ _ (test-says _ _ _ (c .before .state-ok .ensures) (c .if1 .taken)) _)
+unfolding commitTo
+returns c = simp (test-says _ _ _ (c .before .state-ok .ensures) (c .if1 .taken))
 
 returns-2 : tie.Need-returns-2
 returns-2 c = sym (commit-below _ _ _ (test-says _ _ _ (c .before .before .before .state-ok .ensures) (c .before .before .if1 .left)) _ (omega arith))

@@ -1,9 +1,10 @@
--- `is_up_to_date` meets its contract: each answer has its law in Looks.
+-- `is_up_to_date` meets its contract: refusal 1, or each answer has its law in Looks.
 use mathlib.Core.Path.{sym}
 use native.Mathlib.Omega.{arith}
 use borrow.Author.Needs.{needs}
+use Rattle.raft_log.specs.Look.{isUpToDate}
 use Rattle.raft_log.proofs.States.{passed, test-says}
-use Rattle.raft_log.proofs.Looks.{up-to-date-refused, later-term, earlier-term, same-term}
+use Rattle.raft_log.proofs.Looks.{later-term, earlier-term, same-term}
 use Rattle.raft_log.proofs.Log.is_up_to_date.Statement.{statement}
 use Rattle.raft_log.proofs.Log.is_up_to_date.Tie as tie
 
@@ -11,7 +12,8 @@ state-ok-requires : tie.Need-state-ok-requires
 state-ok-requires c κs = search needs
 
 returns : tie.Need-returns
-returns c = sym (up-to-date-refused _ _ _ (test-says _ _ _ (c .before .state-ok .ensures) (c .if1 .taken)) _ _)
+unfolding isUpToDate
+returns c = simp (test-says _ _ _ (c .before .state-ok .ensures) (c .if1 .taken))
 
 last-of-requires : tie.Need-last-of-requires
 last-of-requires c κs = passed (c .before .state-ok .ensures) (c .if1 .left)

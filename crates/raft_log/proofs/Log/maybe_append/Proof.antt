@@ -1,10 +1,19 @@
 -- `maybe_append` meets its contract: the answer is decided first, and what it says is what the copy asks.
-use Rattle.raft_log.proofs.Appending.{answer-cut, store-refused, store-same, store-cut}
+use Rattle.raft_log.specs.Words.{room, runCount}
+use Rattle.raft_log.proofs.Appending.{Cut, answer-cut, store-refused, store-same, store-cut}
 use borrow.Author.Needs.{needs}
 use native.Mathlib.Omega.{arith}
 use mathlib.Core.Path.{sym, _∙_}
 use Rattle.raft_log.proofs.Log.maybe_append.Statement.{statement}
 use Rattle.raft_log.proofs.Log.maybe_append.Tie as tie
+
+-- what the answer says to the copy, once it is known to carry a conflict
+cut : (e : tie.Else1) → let k = e .before .before .before in
+    let a = k .before .before .before .before .before .before .before .args in
+    Cut (room (a .pending .now)) (a .idx .0) (runCount (a .run .now)) (k .answer .given .0 .0) (k .answer .given .0 .1 .0) (k .answer .given .0 .1 .1 .0)
+cut e =
+    let k = e .before .before .before in
+    answer-cut _ _ _ _ _ _ _ (sym (k .before .before .maybe-append-answer .ensures) ∙ k .answer .given .1) (e .if1 .left)
 
 maybe-append-answer-requires : tie.Need-maybe-append-answer-requires
 maybe-append-answer-requires c κs = search needs
@@ -30,46 +39,22 @@ returns-2 c =
     (sym (k .answer .given .1) ∙ k .before .before .maybe-append-answer .ensures, store-same _ _ _ _ _ _ (c .if1 .taken))
 
 sub-at : tie.Need-sub-at
-sub-at c =
-    let e = c .before .before in
-    let k = e .before .before .before in
-    let cut = answer-cut _ _ _ _ _ _ _ (sym (k .before .before .maybe-append-answer .ensures) ∙ k .answer .given .1) (e .if1 .left) in
-    omega arith
+sub-at c = let known = cut (c .before .before) in omega arith
 
 sub-from : tie.Need-sub-from
-sub-from c =
-    let e = c .before .before .before .before in
-    let k = e .before .before .before in
-    let cut = answer-cut _ _ _ _ _ _ _ (sym (k .before .before .maybe-append-answer .ensures) ∙ k .answer .given .1) (e .if1 .left) in
-    omega arith
+sub-from c = let known = cut (c .before .before .before .before) in omega arith
 
 sub-from-2 : tie.Need-sub-from-2
-sub-from-2 c =
-    let e = c .before .before .before .before in
-    let k = e .before .before .before in
-    let cut = answer-cut _ _ _ _ _ _ _ (sym (k .before .before .maybe-append-answer .ensures) ∙ k .answer .given .1) (e .if1 .left) in
-    omega arith
+sub-from-2 c = let known = cut (c .before .before .before .before) in omega arith
 
 add-n : tie.Need-add-n
-add-n c =
-    let e = c .before .before .before .before .before in
-    let k = e .before .before .before in
-    let cut = answer-cut _ _ _ _ _ _ _ (sym (k .before .before .maybe-append-answer .ensures) ∙ k .answer .given .1) (e .if1 .left) in
-    omega arith
+add-n c = let known = cut (c .before .before .before .before .before) in omega arith
 
 sub-n : tie.Need-sub-n
-sub-n c =
-    let e = c .before .before .before .before .before .before in
-    let k = e .before .before .before in
-    let cut = answer-cut _ _ _ _ _ _ _ (sym (k .before .before .maybe-append-answer .ensures) ∙ k .answer .given .1) (e .if1 .left) in
-    omega arith
+sub-n c = let known = cut (c .before .before .before .before .before .before) in omega arith
 
 put-run-requires : tie.Need-put-run-requires
-put-run-requires c κs =
-    let e = c .before .before .before .before .before .before .before in
-    let k = e .before .before .before in
-    let cut = answer-cut _ _ _ _ _ _ _ (sym (k .before .before .maybe-append-answer .ensures) ∙ k .answer .given .1) (e .if1 .left) in
-    omega arith
+put-run-requires c κs = let known = cut (c .before .before .before .before .before .before .before) in omega arith
 
 same-length-3 : tie.Need-same-length-3
 same-length-3 c = search needs

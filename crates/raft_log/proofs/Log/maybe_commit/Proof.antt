@@ -1,9 +1,10 @@
--- `maybe_commit` meets its contract: each answer has its law in Commits.
+-- `maybe_commit` meets its contract: refusal 1, or each answer has its law in Commits.
 use mathlib.Core.Path.{sym}
 use native.Mathlib.Omega.{arith}
 use borrow.Author.Needs.{needs}
+use Rattle.raft_log.specs.Commit.{maybeCommit}
 use Rattle.raft_log.proofs.States.{passed, test-says}
-use Rattle.raft_log.proofs.Commits.{maybe-commit-refused, no-commit-below, no-commit-beyond, no-commit-term, commits}
+use Rattle.raft_log.proofs.Commits.{no-commit-below, no-commit-beyond, no-commit-term, commits}
 use Rattle.raft_log.proofs.Log.maybe_commit.Statement.{statement}
 use Rattle.raft_log.proofs.Log.maybe_commit.Tie as tie
 
@@ -11,7 +12,8 @@ state-ok-requires : tie.Need-state-ok-requires
 state-ok-requires c κs = search needs
 
 returns : tie.Need-returns
-returns c = sym (maybe-commit-refused _ _ _ (test-says _ _ _ (c .before .state-ok .ensures) (c .if1 .taken)) _ _)
+unfolding maybeCommit
+returns c = simp (test-says _ _ _ (c .before .state-ok .ensures) (c .if1 .taken))
 
 returns-2 : tie.Need-returns-2
 returns-2 c = sym (no-commit-below _ _ _ (test-says _ _ _ (c .before .before .before .state-ok .ensures) (c .before .before .if1 .left)) _ _ (omega arith))

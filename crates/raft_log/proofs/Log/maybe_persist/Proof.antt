@@ -1,9 +1,10 @@
--- `maybe_persist` meets its contract: each answer has its law in Commits.
+-- `maybe_persist` meets its contract: refusal 1, or each answer has its law in Commits.
 use mathlib.Core.Path.{sym}
 use native.Mathlib.Omega.{arith}
 use borrow.Author.Needs.{needs}
+use Rattle.raft_log.specs.Commit.{maybePersist}
 use Rattle.raft_log.proofs.States.{passed, test-says}
-use Rattle.raft_log.proofs.Commits.{maybe-persist-refused, no-persist-below, no-persist-pending, no-persist-term, persists}
+use Rattle.raft_log.proofs.Commits.{no-persist-below, no-persist-pending, no-persist-term, persists}
 use Rattle.raft_log.proofs.Log.maybe_persist.Statement.{statement}
 use Rattle.raft_log.proofs.Log.maybe_persist.Tie as tie
 
@@ -11,7 +12,8 @@ state-ok-requires : tie.Need-state-ok-requires
 state-ok-requires c κs = search needs
 
 returns : tie.Need-returns
-returns c = sym (maybe-persist-refused _ _ _ (test-says _ _ _ (c .before .state-ok .ensures) (c .if1 .taken)) _ _)
+unfolding maybePersist
+returns c = simp (test-says _ _ _ (c .before .state-ok .ensures) (c .if1 .taken))
 
 returns-2 : tie.Need-returns-2
 returns-2 c = sym (no-persist-below _ _ _ (test-says _ _ _ (c .before .before .before .state-ok .ensures) (c .before .before .if1 .left)) _ _ (omega arith))

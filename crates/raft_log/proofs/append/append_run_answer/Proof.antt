@@ -1,16 +1,17 @@
--- `append_run_answer` meets its contract: each answer has its law.
+-- `append_run_answer` meets its contract: refusal 1, or each answer has its law.
 use Rattle.raft_log.specs.declared.Extended.the-variants.{Last, Refused}
 use Rattle.raft_log.specs.declared.run.Checked.{Checked}
 use Rattle.raft_log.specs.Run.{checkRun, refusedBy}
 use Rattle.raft_log.proofs.States.{passed, test-says}
 use Rattle.raft_log.proofs.Runs.{run-passed}
-use Rattle.raft_log.proofs.Extending.{extend-broken, extend-empty, extend-zero, extend-run, extend-on}
+use Rattle.raft_log.proofs.Extending.{extend-empty, extend-zero, extend-run, extend-on}
 use mathlib.Core.List.{List}
 use Rattle.units.specs.Units.{indexOf}
 use native.Mathlib.Omega.{arith}
 use mathlib.Core.Path.{_≡_, sym, ap, _∙_}
 use Prim.Native.Nat.{ℕ, _-_}
 use borrow.Author.Needs.{needs}
+use Rattle.raft_log.specs.Extend.{appendRun}
 use Rattle.raft_log.proofs.append.append_run_answer.Statement.{statement}
 use Rattle.raft_log.proofs.append.append_run_answer.Tie as tie
 
@@ -22,7 +23,8 @@ state-ok-requires : tie.Need-state-ok-requires
 state-ok-requires c κs = search needs
 
 returns : tie.Need-returns
-returns c = sym (extend-broken _ _ _ _ (test-says _ _ _ (c .before .state-ok .ensures) (c .if1 .taken)))
+unfolding appendRun
+returns c = simp (test-says _ _ _ (c .before .state-ok .ensures) (c .if1 .taken))
 
 last-of-requires : tie.Need-last-of-requires
 last-of-requires c κs = passed (c .before .before .state-ok .ensures) (c .before .if1 .left)

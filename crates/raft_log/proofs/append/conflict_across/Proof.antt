@@ -8,6 +8,10 @@ use Prim.Native.Nat.{_-_, _≤_}
 use Rattle.raft_log.proofs.append.conflict_across.Statement.{statement}
 use Rattle.raft_log.proofs.append.conflict_across.Tie as tie
 
+-- what is asked: the previous record is held, and the run's terms are set
+held : (s : tie.Start) → Held (s .args .log) (s .args .settled .now) (s .args .pending .now) (s .args .idx) (s .args .run .now) (s .args .n)
+held s = record { good = s .pre .1 .0; within = s .pre .1 .1 .0; set = s .pre .1 .1 .1 .0 }
+
 sub-at : tie.Need-sub-at
 sub-at c = search needs
 
@@ -17,10 +21,7 @@ same-terms-requires c κs = search needs
 returns : tie.Need-returns
 returns c =
     let s = c .before .before .before .before .before .before in
-    let a = s .args in
-    let p = s .pre in
-    let held : Held (a .log) (a .settled .now) (a .pending .now) (a .idx) (a .run .now) (a .n) = record { good = p .1 .0; within = p .1 .1 .0; set = p .1 .1 .1 .0 } in
-    conflict-held held _ (p .1 .1 .1 .1 .1) (omega arith) (c .same-terms .ensures)
+    conflict-held (held s) _ (s .pre .1 .1 .1 .1 .1) (omega arith) (c .same-terms .ensures)
 
 same-terms-requires-2 : tie.Need-same-terms-requires-2
 same-terms-requires-2 c κs = search needs
@@ -28,10 +29,7 @@ same-terms-requires-2 c κs = search needs
 returns-2 : tie.Need-returns-2
 returns-2 c =
     let s = c .before .before .before .before .before .before .before in
-    let a = s .args in
-    let p = s .pre in
-    let held : Held (a .log) (a .settled .now) (a .pending .now) (a .idx) (a .run .now) (a .n) = record { good = p .1 .0; within = p .1 .1 .0; set = p .1 .1 .1 .0 } in
-    conflict-settled held _ (omega arith) (omega arith) (c .before .same-terms2 .ensures) (c .if2 .taken)
+    conflict-settled (held s) _ (omega arith) (omega arith) (c .before .same-terms2 .ensures) (c .if2 .taken)
 
 sub-same-terms : tie.Need-sub-same-terms
 sub-same-terms c = search needs
@@ -50,10 +48,7 @@ add-result c =
 returns-3 : tie.Need-returns-3
 returns-3 c =
     let s = c .before .before .before .before .before .before .before .before in
-    let a = s .args in
-    let p = s .pre in
-    let held : Held (a .log) (a .settled .now) (a .pending .now) (a .idx) (a .run .now) (a .n) = record { good = p .1 .0; within = p .1 .1 .0; set = p .1 .1 .1 .0 } in
-    conflict-over held _ _ (omega arith) (p .1 .1 .1 .1 .0) (c .before .before .same-terms2 .ensures) (c .before .if2 .left) (c .same-terms3 .ensures)
+    conflict-over (held s) _ _ (omega arith) (s .pre .1 .1 .1 .1 .0) (c .before .before .same-terms2 .ensures) (c .before .if2 .left) (c .same-terms3 .ensures)
 
 pub conflict-across-spec : {M : Type 1} → statement M
 conflict-across-spec =

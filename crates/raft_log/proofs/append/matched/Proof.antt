@@ -1,6 +1,7 @@
 -- `matched` meets its contract: each answer has its law; where the previous record matches, the log holds it.
 use Rattle.raft_log.specs.Append.{decide}
 use Rattle.raft_log.proofs.Appending.{match-outside, match-mismatch, match-on, held-within}
+use Rattle.raft_log.proofs.Searching.{same-not}
 use borrow.Author.Needs.{needs}
 use native.Mathlib.Omega.{arith}
 use mathlib.Core.Path.{sym, ap, _∙_}
@@ -26,7 +27,7 @@ first-conflict-requires c κs =
     let t = c .before in
     let b = t .before in
     let u = sym (b .before .is-outside .ensures) ∙ b .if1 .left in
-    let e = sym (t .term-at .ensures) ∙ c .if2 .left in
+    let e = same-not (sym (t .term-at .ensures) ∙ c .if2 .left) in
     let p = b .before .before .before .before .before .pre in
     (omega arith, (p .0, (held-within _ _ _ _ _ (p .0) u e, p .1 .1)))
 

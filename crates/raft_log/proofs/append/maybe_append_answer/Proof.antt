@@ -1,10 +1,11 @@
--- `maybe_append_answer` meets its contract: each answer has its law.
+-- `maybe_append_answer` meets its contract: refusal 1, or each answer has its law.
 use Rattle.raft_log.specs.declared.Appended.the-variants.{Refused}
 use Rattle.raft_log.specs.Run.{refusedBy}
 use Rattle.raft_log.proofs.States.{passed, test-says}
 use Rattle.raft_log.proofs.Runs.{run-passed}
-use Rattle.raft_log.proofs.Appending.{answer-broken, answer-run, answer-on}
+use Rattle.raft_log.proofs.Appending.{answer-run, answer-on}
 use borrow.Author.Needs.{needs}
+use Rattle.raft_log.specs.Append.{maybeAppend}
 use native.Mathlib.Omega.{arith}
 use mathlib.Core.Path.{sym, ap, _∙_}
 use Prim.Native.Nat.{ℕ}
@@ -15,7 +16,8 @@ state-ok-requires : tie.Need-state-ok-requires
 state-ok-requires c κs = search needs
 
 returns : tie.Need-returns
-returns c = sym (answer-broken _ _ _ _ _ _ _ (test-says _ _ _ (c .before .state-ok .ensures) (c .if1 .taken)))
+unfolding maybeAppend
+returns c = simp (test-says _ _ _ (c .before .state-ok .ensures) (c .if1 .taken))
 
 check-run-requires : tie.Need-check-run-requires
 check-run-requires c κs = search needs
