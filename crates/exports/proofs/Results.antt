@@ -1,6 +1,6 @@
 -- What a caller may read off a result, call by call in the order of include/deckplover.h. 01, "Refusals": "Every refusal returns its number alone and changes nothing."; and 0 is no refusal's number.
 use mathlib.Core.Path.{_≡_, refl}
-use mathlib.Core.Bool.{Bool, true, false, not, cond, _||_}
+use mathlib.Core.Bool.{Bool, not, cond, _||_}
 use mathlib.Core.Logic.{_≢_}
 use mathlib.Core.List.{List, [], _∷_, map}
 use Prim.Native.Nat.{ℕ, _-_, min}

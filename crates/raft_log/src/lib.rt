@@ -23,7 +23,7 @@ use units::smaller;
 use units::words::copy_at;
 use words::store_term;
 ghost use mathlib.Core.Path.{_≡_};
-ghost use Prim.Native.Nat.{_+_, _-_, _≤_, _<_};
+ghost use Prim.Native.Nat.{_+_, _≤_};
 ghost use Rattle.raft_log.specs.Words.{room, storeTerm, firstFrom, zeroAt};
 ghost use Rattle.raft_log.specs.Append.{maybeAppend, maybeAppendStore};
 ghost use Rattle.raft_log.specs.Extend.{appendRun, appendRunStore};

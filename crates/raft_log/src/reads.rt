@@ -12,7 +12,6 @@ use units::refusal::BELOW_FIRST;
 use units::refusal::OUT_OF_RANGE;
 use units::smaller;
 ghost use mathlib.Core.Path.{_≡_};
-ghost use Prim.Native.Nat.{_+_, _<_};
 ghost use Rattle.raft_log.specs.State.{Good};
 ghost use Rattle.raft_log.specs.Look.{atMost, lastDown, byTermIn};
 ghost use Rattle.raft_log.specs.Slice.{inStore, sliceIn, hasNext, storePart};

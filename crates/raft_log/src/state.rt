@@ -4,7 +4,7 @@ use crate::words::room;
 use crate::words::store_term;
 use units::Index;
 ghost use mathlib.Core.Path.{_≡_};
-ghost use Prim.Native.Nat.{_+_, _-_, _<_, max};
+ghost use Prim.Native.Nat.{max};
 ghost use lib.Dec.{eqb};
 ghost use Rattle.raft_log.specs.State.{Good, agree, stateOk, termAt, lastOf};
 

@@ -1,5 +1,4 @@
 -- `rows_end` meets its contract.
-use borrow.Author.Needs.{needs}
 use mathlib.Core.Path.{refl}
 use native.Mathlib.Omega.{arith}
 use Rattle.exports.proofs.halves.rows_end.Statement.{statement}
