@@ -25,7 +25,7 @@ add-result : tie.Need-add-result
 add-result c = search needs
 
 returns-2 : tie.Need-returns-2
-returns-2 c = sym (next-test _ _ (omega arith) (c .larger .ensures) (omega arith))
+returns-2 c = sym (next-test _ _ (omega arith) (c .larger .ensures) (c .before .before .before .smaller .ensures))
 
 pub has-next-spec : {M : Type 1} → statement M
 has-next-spec =
