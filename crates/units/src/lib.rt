@@ -1,3 +1,4 @@
+#![tactic(auto)]
 // What every crate above counts in: log indices, terms, and the refusals by name; and how it copies words.
 pub mod refusal;
 pub mod words;
