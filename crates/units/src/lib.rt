@@ -8,7 +8,7 @@ ghost use Rattle.units.specs.Units.{index_of, as_term};
 ghost use Rattle.units.specs.Refusals.{refusal_of, both_checks};
 
 // A log index. Its own type, so that no term can be handed where an index is wanted.
-#[derive(Drop)]
+#[derive(Clone, Copy)]
 pub struct Index(pub u64);
 
 impl Index {
@@ -24,7 +24,7 @@ impl Index {
 }
 
 // A leader's term.
-#[derive(Drop)]
+#[derive(Clone, Copy)]
 pub struct Term(pub u64);
 
 impl Term {
@@ -36,7 +36,7 @@ impl Term {
 }
 
 // What a check finds: nothing wrong, or the refusal that the call is to hand on.
-#[derive(Drop)]
+#[derive(Clone, Copy)]
 pub enum Check {
     Fine,
     Refused(u64),
@@ -67,7 +67,7 @@ impl Check {
 }
 
 // A yes or a no, or a refusal. Here, since the log, the quorums and the window all answer so.
-#[derive(Drop)]
+#[derive(Clone, Copy)]
 pub enum YesOrNo {
     Is(bool),
     Refused(u64),
