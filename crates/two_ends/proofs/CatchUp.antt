@@ -106,7 +106,7 @@ module _ (xs : List Entry) (f : Follower) (p : Premises xs f) (commit : ℕ) whe
       let sent = sent_cut xs idx r.count commit (omega arith) in
       let a = next_message g (message_for idx r) now sent refl room.0 in
       let b = others_now _ (idx + r.count) (subst (Now _) (cut_last sent) a.1) r.others r.besides in
-      let d = all_rounds _ (idx + r.count) b rs (omega arith) room.1 in
+      let d = all_rounds (follow engine (engine g (message_for idx r)).follower r.others) (idx + r.count) b rs (omega arith) room.1 in
       ((a.0, d.0), subst (λ (h : Follower). Now h (length xs)) (sym (follow_on engine _ r.others (sending (idx + r.count) rs))) d.1)
 
   -- at first it has the leader's records up to committed; in the end, up to the list's last
