@@ -3,9 +3,18 @@
 use crate::line::{STATE, copied_at, number_at, part, past};
 use crate::text::{write_result, write_words};
 use exports::leading::leader_maybe_commit;
+use std::io;
+use std::io::Write;
 
 // The call is made, and its line is written. The rest of the line begins with the term.
-fn answered(settled: &[u64], pending: &[u64], rest: &[u64], log: &mut [u64], answer: &mut [u64]) {
+fn answered<W: Write>(
+    out: &mut W,
+    settled: &[u64],
+    pending: &[u64],
+    rest: &[u64],
+    log: &mut [u64],
+    answer: &mut [u64],
+) -> io::Result<()> {
     let from_outgoing = past(rest, 1);
     let result = leader_maybe_commit(
         log,
@@ -17,13 +26,18 @@ fn answered(settled: &[u64], pending: &[u64], rest: &[u64], log: &mut [u64], ans
         part(past(from_outgoing, 0), 0),
         answer,
     );
-    write_result(result);
-    write_words(log);
-    write_words(answer);
+    write_result(out, result)?;
+    write_words(out, log)?;
+    write_words(out, answer)
 }
 
 // The slices that the call may write are copied to lent ones.
-fn filled(line: &[u64], log: &mut [u64], answer: &mut [u64]) {
+fn filled<W: Write>(
+    out: &mut W,
+    line: &[u64],
+    log: &mut [u64],
+    answer: &mut [u64],
+) -> io::Result<()> {
     let from_settled = past(line, 1);
     let from_pending = past(from_settled, 0);
     let rest = past(from_pending, 0);
@@ -31,16 +45,17 @@ fn filled(line: &[u64], log: &mut [u64], answer: &mut [u64]) {
     let l = copied_at(line, 1, log);
     let a = copied_at(past(from_rows, 0), 0, answer);
     answered(
+        out,
         part(from_settled, 0),
         part(from_pending, 0),
         rest,
         &mut log[0..l],
         &mut answer[0..a],
-    );
+    )
 }
 
-pub fn replay(line: &[u64]) {
+pub fn replay<W: Write>(out: &mut W, line: &[u64]) -> io::Result<()> {
     let mut log = [0u64; STATE];
     let mut answer = [0u64; STATE];
-    filled(line, &mut log, &mut answer);
+    filled(out, line, &mut log, &mut answer)
 }

@@ -12,6 +12,8 @@ use exports::writes::{
     log_append, log_applied_to, log_commit_to, log_maybe_commit, log_maybe_persist, log_new,
     log_stable_entries,
 };
+use std::io;
+use std::io::Write;
 
 // The calls that write nothing but the answer; the last arm is 29. The rest of the line begins with the numbers.
 fn read(
@@ -80,29 +82,31 @@ fn call(
 }
 
 // The call is made, and its line is written.
-fn answered(
+fn answered<W: Write>(
+    out: &mut W,
     name: u64,
     rest: &[u64],
     log: &mut [u64],
     settled: &mut [u64],
     pending: &mut [u64],
     answer: &mut [u64],
-) {
-    write_result(call(name, rest, log, settled, pending, answer));
-    write_words(log);
-    write_words(settled);
-    write_words(pending);
-    write_words(answer);
+) -> io::Result<()> {
+    write_result(out, call(name, rest, log, settled, pending, answer))?;
+    write_words(out, log)?;
+    write_words(out, settled)?;
+    write_words(out, pending)?;
+    write_words(out, answer)
 }
 
 // The line's slices are copied to lent ones.
-fn filled(
+fn filled<W: Write>(
+    out: &mut W,
     line: &[u64],
     log: &mut [u64],
     settled: &mut [u64],
     pending: &mut [u64],
     answer: &mut [u64],
-) {
+) -> io::Result<()> {
     let from_settled = past(line, 1);
     let from_pending = past(from_settled, 0);
     let rest = past(from_pending, 0);
@@ -111,19 +115,20 @@ fn filled(
     let p = copied_at(from_pending, 0, pending);
     let a = copied_at(past(rest, 3), 0, answer);
     answered(
+        out,
         number_at(line, 0),
         rest,
         &mut log[0..l],
         &mut settled[0..s],
         &mut pending[0..p],
         &mut answer[0..a],
-    );
+    )
 }
 
-pub fn replay(line: &[u64]) {
+pub fn replay<W: Write>(out: &mut W, line: &[u64]) -> io::Result<()> {
     let mut log = [0u64; STATE];
     let mut settled = [0u64; STORE];
     let mut pending = [0u64; STORE];
     let mut answer = [0u64; STATE];
-    filled(line, &mut log, &mut settled, &mut pending, &mut answer);
+    filled(out, line, &mut log, &mut settled, &mut pending, &mut answer)
 }

@@ -9,6 +9,8 @@ use exports::quorums::{
     joint_is_singleton, joint_vote_result, majority_committed_index, majority_vote_result,
     rows_checked, voters_checked,
 };
+use std::io;
+use std::io::Write;
 
 // The call of that number, from 31 to 41, which is the last arm.
 fn call(
@@ -35,28 +37,37 @@ fn call(
 }
 
 // The call is made, and its line is written.
-fn answered(name: u64, first: &[u64], second: &[u64], rows: &[u64], id: u64, answer: &mut [u64]) {
-    write_result(call(name, first, second, rows, id, answer));
-    write_words(answer);
+fn answered<W: Write>(
+    out: &mut W,
+    name: u64,
+    first: &[u64],
+    second: &[u64],
+    rows: &[u64],
+    id: u64,
+    answer: &mut [u64],
+) -> io::Result<()> {
+    write_result(out, call(name, first, second, rows, id, answer))?;
+    write_words(out, answer)
 }
 
 // The slice that the call may write is copied to a lent one.
-fn filled(line: &[u64], answer: &mut [u64]) {
+fn filled<W: Write>(out: &mut W, line: &[u64], answer: &mut [u64]) -> io::Result<()> {
     let from_second = past(line, 1);
     let from_rows = past(from_second, 0);
     let from_id = past(from_rows, 0);
     let a = copied_at(from_id, 1, answer);
     answered(
+        out,
         number_at(line, 0),
         part(line, 1),
         part(from_second, 0),
         part(from_rows, 0),
         number_at(from_id, 0),
         &mut answer[0..a],
-    );
+    )
 }
 
-pub fn replay(line: &[u64]) {
+pub fn replay<W: Write>(out: &mut W, line: &[u64]) -> io::Result<()> {
     let mut answer = [0u64; STATE];
-    filled(line, &mut answer);
+    filled(out, line, &mut answer)
 }

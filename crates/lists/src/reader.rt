@@ -1,7 +1,7 @@
 // Reads lines of decimal numbers, byte by byte, into lent words.
 
 // How far a line has been read: how many of its numbers are in the words, and the number that is being read.
-#[derive(Drop)]
+#[derive(Clone, Copy)]
 pub struct Reader {
     pub count: usize,
     value: u64,

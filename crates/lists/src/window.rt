@@ -6,6 +6,8 @@ use exports::window::{
     inflights_add, inflights_count, inflights_free_first_one, inflights_free_to, inflights_full,
     inflights_maybe_free_buffer, inflights_new, inflights_reset, inflights_set_cap,
 };
+use std::io;
+use std::io::Write;
 
 // The call of that number, from 1 to 9, which is the last arm.
 fn call(name: u64, window: &mut [u64], ring: &mut [u64], number: u64, answer: &mut [u64]) -> u64 {
@@ -23,32 +25,46 @@ fn call(name: u64, window: &mut [u64], ring: &mut [u64], number: u64, answer: &m
 }
 
 // The call is made, and its line is written.
-fn answered(name: u64, window: &mut [u64], ring: &mut [u64], number: u64, answer: &mut [u64]) {
-    write_result(call(name, window, ring, number, answer));
-    write_words(window);
-    write_words(ring);
-    write_words(answer);
+fn answered<W: Write>(
+    out: &mut W,
+    name: u64,
+    window: &mut [u64],
+    ring: &mut [u64],
+    number: u64,
+    answer: &mut [u64],
+) -> io::Result<()> {
+    write_result(out, call(name, window, ring, number, answer))?;
+    write_words(out, window)?;
+    write_words(out, ring)?;
+    write_words(out, answer)
 }
 
 // The line's slices are copied to lent ones.
-fn filled(line: &[u64], window: &mut [u64], ring: &mut [u64], answer: &mut [u64]) {
+fn filled<W: Write>(
+    out: &mut W,
+    line: &[u64],
+    window: &mut [u64],
+    ring: &mut [u64],
+    answer: &mut [u64],
+) -> io::Result<()> {
     let from_ring = past(line, 1);
     let from_number = past(from_ring, 0);
     let w = copied_at(line, 1, window);
     let r = copied_at(from_ring, 0, ring);
     let a = copied_at(from_number, 1, answer);
     answered(
+        out,
         number_at(line, 0),
         &mut window[0..w],
         &mut ring[0..r],
         number_at(from_number, 0),
         &mut answer[0..a],
-    );
+    )
 }
 
-pub fn replay(line: &[u64]) {
+pub fn replay<W: Write>(out: &mut W, line: &[u64]) -> io::Result<()> {
     let mut window = [0u64; STATE];
     let mut ring = [0u64; STORE];
     let mut answer = [0u64; STATE];
-    filled(line, &mut window, &mut ring, &mut answer);
+    filled(out, line, &mut window, &mut ring, &mut answer)
 }

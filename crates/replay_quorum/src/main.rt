@@ -1,8 +1,10 @@
+#![tactic(auto)]
 // Replays a list of calls on quorums.
-use libc::STDOUT_FILENO;
+use std::io;
 
-fn main() {
-    if 0 < lists::replay() {
-        io::write_all(STDOUT_FILENO, b"the last line has no end\n");
+fn main(rt: HostRuntime) -> io::Result<()> {
+    if 0 < lists::replay(&rt)? {
+        println!(rt; "the last line has no end")?;
     }
+    Ok(())
 }
