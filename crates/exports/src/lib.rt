@@ -1,6 +1,6 @@
-// The static library: the calls of the crates below, for programs in Rust and C. Only numbers and slices of words cross the boundary.
+#![tactic(auto)]
+// The boundary: the calls of the crates below, over numbers and slices of words alone. Crate exports_c hands them to programs in Rust and C.
 // A state stands as words in a lent slice, and so do the values of an answer; the result is 0 or the refusal's number.
-// For C a slice is a pointer and then a length in words; a slice that a call may write overlaps no other that it is lent.
 mod answers;
 mod halves;
 pub mod leading;

@@ -8,8 +8,7 @@ use units::refusal::BROKEN_STATE;
 use units::{Index, Term};
 
 // AppendEntries at the receiver. Values: conflict, last.
-#[unsafe(no_mangle)]
-pub extern "C" fn log_maybe_append(
+pub fn log_maybe_append(
     log: &mut [u64],
     settled: &[u64],
     pending: &mut [u64],

@@ -77,8 +77,7 @@ fn write_sizes(answer: &mut [u64], config: JointConfig) -> u64
 }
 
 // How far a majority has acknowledged. Values: the index, and 1 if nobody had a say.
-#[unsafe(no_mangle)]
-pub extern "C" fn majority_committed_index(voters: &[u64], rows: &[u64], answer: &mut [u64]) -> u64
+pub fn majority_committed_index(voters: &[u64], rows: &[u64], answer: &mut [u64]) -> u64
     ensures { leaves result (answer.new ∷ []) ≡ majority_committed_index_leaves voters.now rows.now answer.old }
 {
     if answer.len() < PAIR {
@@ -89,8 +88,7 @@ pub extern "C" fn majority_committed_index(voters: &[u64], rows: &[u64], answer:
 }
 
 // How the vote stands: 0 pending, 1 lost, 2 won.
-#[unsafe(no_mangle)]
-pub extern "C" fn majority_vote_result(voters: &[u64], rows: &[u64], answer: &mut [u64]) -> u64
+pub fn majority_vote_result(voters: &[u64], rows: &[u64], answer: &mut [u64]) -> u64
     ensures { leaves result (answer.new ∷ []) ≡ majority_vote_result_leaves voters.now rows.now answer.old }
 {
     if answer.len() < SINGLE {
@@ -101,8 +99,7 @@ pub extern "C" fn majority_vote_result(voters: &[u64], rows: &[u64], answer: &mu
 }
 
 // How far a majority of both halves has acknowledged.
-#[unsafe(no_mangle)]
-pub extern "C" fn joint_committed_index(
+pub fn joint_committed_index(
     incoming: &[u64],
     outgoing: &[u64],
     rows: &[u64],
@@ -118,8 +115,7 @@ pub extern "C" fn joint_committed_index(
 }
 
 // How the vote of both halves stands.
-#[unsafe(no_mangle)]
-pub extern "C" fn joint_vote_result(
+pub fn joint_vote_result(
     incoming: &[u64],
     outgoing: &[u64],
     rows: &[u64],
@@ -135,8 +131,7 @@ pub extern "C" fn joint_vote_result(
 }
 
 // One incoming voter, and nobody outgoing.
-#[unsafe(no_mangle)]
-pub extern "C" fn joint_is_singleton(incoming: &[u64], outgoing: &[u64], answer: &mut [u64]) -> u64
+pub fn joint_is_singleton(incoming: &[u64], outgoing: &[u64], answer: &mut [u64]) -> u64
     ensures { leaves result (answer.new ∷ []) ≡ is_singleton_leaves incoming.now outgoing.now answer.old }
 {
     if answer.len() < SINGLE {
@@ -147,8 +142,7 @@ pub extern "C" fn joint_is_singleton(incoming: &[u64], outgoing: &[u64], answer:
 }
 
 // Whether `id` is a voter of either half.
-#[unsafe(no_mangle)]
-pub extern "C" fn joint_contains(
+pub fn joint_contains(
     incoming: &[u64],
     outgoing: &[u64],
     id: u64,
@@ -164,8 +158,7 @@ pub extern "C" fn joint_contains(
 }
 
 // The ids of both halves in rising order. Values: how many, and a word for each that there can be.
-#[unsafe(no_mangle)]
-pub extern "C" fn joint_ids(incoming: &[u64], outgoing: &[u64], answer: &mut [u64]) -> u64
+pub fn joint_ids(incoming: &[u64], outgoing: &[u64], answer: &mut [u64]) -> u64
     ensures { leaves result (answer.new ∷ []) ≡ joint_ids_leaves incoming.now outgoing.now answer.old }
 {
     if answer.len() < IDS {
@@ -176,8 +169,7 @@ pub extern "C" fn joint_ids(incoming: &[u64], outgoing: &[u64], answer: &mut [u6
 }
 
 // No ids in either half, whatever they were. Values: how many ids are left incoming, and how many outgoing.
-#[unsafe(no_mangle)]
-pub extern "C" fn joint_clear(incoming: &[u64], outgoing: &[u64], answer: &mut [u64]) -> u64
+pub fn joint_clear(incoming: &[u64], outgoing: &[u64], answer: &mut [u64]) -> u64
     ensures { leaves result (answer.new ∷ []) ≡ clear_leaves incoming.now outgoing.now answer.old }
 {
     if answer.len() < PAIR {
@@ -188,24 +180,21 @@ pub extern "C" fn joint_clear(incoming: &[u64], outgoing: &[u64], answer: &mut [
 }
 
 // 12 where the ids are too many, or one stands twice.
-#[unsafe(no_mangle)]
-pub extern "C" fn voters_checked(voters: &[u64]) -> u64
+pub fn voters_checked(voters: &[u64]) -> u64
     ensures { result ≡ voters_refusal voters.now }
 {
     ids_checked(voters).refusal()
 }
 
 // 12 of either half.
-#[unsafe(no_mangle)]
-pub extern "C" fn joint_checked(incoming: &[u64], outgoing: &[u64]) -> u64
+pub fn joint_checked(incoming: &[u64], outgoing: &[u64]) -> u64
     ensures { result ≡ joint_refusal incoming.now outgoing.now }
 {
     config(incoming, outgoing).checked().refusal()
 }
 
 // 12 where the rows are too many, or an id stands twice.
-#[unsafe(no_mangle)]
-pub extern "C" fn rows_checked(rows: &[u64]) -> u64
+pub fn rows_checked(rows: &[u64]) -> u64
     ensures { result ≡ rows_refusal rows.now }
 {
     crate::halves::rows_checked(rows).refusal()

@@ -11,8 +11,7 @@ use units::refusal::BROKEN_STATE;
 use units::{Index, Term};
 
 // The term at an index, 0 outside the log.
-#[unsafe(no_mangle)]
-pub extern "C" fn log_term(
+pub fn log_term(
     log: &[u64],
     settled: &[u64],
     pending: &[u64],
@@ -32,8 +31,7 @@ pub extern "C" fn log_term(
     write_looked(answer, said)
 }
 
-#[unsafe(no_mangle)]
-pub extern "C" fn log_first_index(
+pub fn log_first_index(
     log: &[u64],
     settled: &[u64],
     pending: &[u64],
@@ -52,8 +50,7 @@ pub extern "C" fn log_first_index(
     write_placed(answer, said)
 }
 
-#[unsafe(no_mangle)]
-pub extern "C" fn log_last_index(
+pub fn log_last_index(
     log: &[u64],
     settled: &[u64],
     pending: &[u64],
@@ -72,8 +69,7 @@ pub extern "C" fn log_last_index(
     write_placed(answer, said)
 }
 
-#[unsafe(no_mangle)]
-pub extern "C" fn log_last_term(
+pub fn log_last_term(
     log: &[u64],
     settled: &[u64],
     pending: &[u64],
@@ -93,8 +89,7 @@ pub extern "C" fn log_last_term(
 }
 
 // Values: committed, its term.
-#[unsafe(no_mangle)]
-pub extern "C" fn log_commit_info(
+pub fn log_commit_info(
     log: &[u64],
     settled: &[u64],
     pending: &[u64],
@@ -114,8 +109,7 @@ pub extern "C" fn log_commit_info(
 }
 
 // Whether a log that ends with (i, t) is at least as up to date as this one.
-#[unsafe(no_mangle)]
-pub extern "C" fn log_is_up_to_date(
+pub fn log_is_up_to_date(
     log: &[u64],
     settled: &[u64],
     pending: &[u64],
@@ -137,8 +131,7 @@ pub extern "C" fn log_is_up_to_date(
 }
 
 // The largest index at most i whose term is at most t. Values: the index, 1 if a term goes with it, the term.
-#[unsafe(no_mangle)]
-pub extern "C" fn log_find_conflict_by_term(
+pub fn log_find_conflict_by_term(
     log: &[u64],
     settled: &[u64],
     pending: &[u64],
@@ -160,8 +153,7 @@ pub extern "C" fn log_find_conflict_by_term(
 }
 
 // The records from low up to high, as far as one store holds them. Values: where (0: empty, 1: settled, 2: pending), first index, index after the last, first word in that store, how many words.
-#[unsafe(no_mangle)]
-pub extern "C" fn log_slice(
+pub fn log_slice(
     log: &[u64],
     settled: &[u64],
     pending: &[u64],
@@ -183,8 +175,7 @@ pub extern "C" fn log_slice(
 }
 
 // All records from i on, by the same values.
-#[unsafe(no_mangle)]
-pub extern "C" fn log_entries(
+pub fn log_entries(
     log: &[u64],
     settled: &[u64],
     pending: &[u64],
@@ -205,8 +196,7 @@ pub extern "C" fn log_entries(
 }
 
 // The records after s that are committed and persisted, by the same values.
-#[unsafe(no_mangle)]
-pub extern "C" fn log_next_entries_since(
+pub fn log_next_entries_since(
     log: &[u64],
     settled: &[u64],
     pending: &[u64],
@@ -227,8 +217,7 @@ pub extern "C" fn log_next_entries_since(
 }
 
 // Whether there are such records.
-#[unsafe(no_mangle)]
-pub extern "C" fn log_has_next_entries_since(
+pub fn log_has_next_entries_since(
     log: &[u64],
     settled: &[u64],
     pending: &[u64],

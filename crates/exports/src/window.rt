@@ -10,8 +10,7 @@ use inflights::Inflights;
 use units::refusal::BROKEN_STATE;
 
 // A window of no flights.
-#[unsafe(no_mangle)]
-pub extern "C" fn inflights_new(cap: u64, ring: &[u64], window: &mut [u64]) -> u64
+pub fn inflights_new(cap: u64, ring: &[u64], window: &mut [u64]) -> u64
     ensures { leaves result (window.new ∷ []) ≡ new_window_leaves cap ring.now window.old }
 {
     if window.len() < WINDOW {
@@ -22,8 +21,7 @@ pub extern "C" fn inflights_new(cap: u64, ring: &[u64], window: &mut [u64]) -> u
 }
 
 // Adjusts the cap, 0 included. A smaller one waits until the queue is empty.
-#[unsafe(no_mangle)]
-pub extern "C" fn inflights_set_cap(window: &mut [u64], ring: &[u64], cap: u64) -> u64
+pub fn inflights_set_cap(window: &mut [u64], ring: &[u64], cap: u64) -> u64
     ensures { leaves result (window.new ∷ []) ≡ set_cap_leaves window.old ring.now cap }
 {
     if window.len() < WINDOW {
@@ -35,8 +33,7 @@ pub extern "C" fn inflights_set_cap(window: &mut [u64], ring: &[u64], cap: u64) 
 }
 
 // Adds a flight behind the last one: the only call that writes a word of the ring.
-#[unsafe(no_mangle)]
-pub extern "C" fn inflights_add(window: &mut [u64], ring: &mut [u64], inflight: u64) -> u64
+pub fn inflights_add(window: &mut [u64], ring: &mut [u64], inflight: u64) -> u64
     ensures { leaves result (ring.new ∷ window.new ∷ []) ≡ add_leaves window.old ring.old inflight }
 {
     if window.len() < WINDOW {
@@ -48,8 +45,7 @@ pub extern "C" fn inflights_add(window: &mut [u64], ring: &mut [u64], inflight: 
 }
 
 // Frees the flights in front that are at most `to`, up to the first larger one.
-#[unsafe(no_mangle)]
-pub extern "C" fn inflights_free_to(window: &mut [u64], ring: &[u64], to: u64) -> u64
+pub fn inflights_free_to(window: &mut [u64], ring: &[u64], to: u64) -> u64
     ensures { leaves result (window.new ∷ []) ≡ free_to_leaves window.old ring.now to }
 {
     if window.len() < WINDOW {
@@ -61,8 +57,7 @@ pub extern "C" fn inflights_free_to(window: &mut [u64], ring: &[u64], to: u64) -
 }
 
 // Frees the first flight, and with it those right behind it that are at most as large.
-#[unsafe(no_mangle)]
-pub extern "C" fn inflights_free_first_one(window: &mut [u64], ring: &[u64]) -> u64
+pub fn inflights_free_first_one(window: &mut [u64], ring: &[u64]) -> u64
     ensures { leaves result (window.new ∷ []) ≡ free_first_one_leaves window.old ring.now }
 {
     if window.len() < WINDOW {
@@ -74,8 +69,7 @@ pub extern "C" fn inflights_free_first_one(window: &mut [u64], ring: &[u64]) -> 
 }
 
 // Frees all flights.
-#[unsafe(no_mangle)]
-pub extern "C" fn inflights_reset(window: &mut [u64], ring: &[u64]) -> u64
+pub fn inflights_reset(window: &mut [u64], ring: &[u64]) -> u64
     ensures { leaves result (window.new ∷ []) ≡ reset_leaves window.old ring.now }
 {
     if window.len() < WINDOW {
@@ -87,8 +81,7 @@ pub extern "C" fn inflights_reset(window: &mut [u64], ring: &[u64]) -> u64
 }
 
 // Lets an empty queue begin at the ring's first word again.
-#[unsafe(no_mangle)]
-pub extern "C" fn inflights_maybe_free_buffer(window: &mut [u64], ring: &[u64]) -> u64
+pub fn inflights_maybe_free_buffer(window: &mut [u64], ring: &[u64]) -> u64
     ensures { leaves result (window.new ∷ []) ≡ maybe_free_buffer_leaves window.old ring.now }
 {
     if window.len() < WINDOW {
@@ -100,8 +93,7 @@ pub extern "C" fn inflights_maybe_free_buffer(window: &mut [u64], ring: &[u64]) 
 }
 
 // Whether no flight can be added. Value: 1 for yes, 0 for no.
-#[unsafe(no_mangle)]
-pub extern "C" fn inflights_full(window: &[u64], ring: &[u64], answer: &mut [u64]) -> u64
+pub fn inflights_full(window: &[u64], ring: &[u64], answer: &mut [u64]) -> u64
     ensures { leaves result (answer.new ∷ []) ≡ full_leaves window.now ring.now answer.old }
 {
     if window.len() < WINDOW {
@@ -116,8 +108,7 @@ pub extern "C" fn inflights_full(window: &[u64], ring: &[u64], answer: &mut [u64
 }
 
 // Value: the number of flights.
-#[unsafe(no_mangle)]
-pub extern "C" fn inflights_count(window: &[u64], ring: &[u64], answer: &mut [u64]) -> u64
+pub fn inflights_count(window: &[u64], ring: &[u64], answer: &mut [u64]) -> u64
     ensures { leaves result (answer.new ∷ []) ≡ count_leaves window.now ring.now answer.old }
 {
     if window.len() < WINDOW {

@@ -9,8 +9,7 @@ use units::refusal::BROKEN_STATE;
 use units::{Index, Term};
 
 // Set-up: the state of a new log over its two stores.
-#[unsafe(no_mangle)]
-pub extern "C" fn log_new(
+pub fn log_new(
     start: u64,
     start_term: u64,
     last: u64,
@@ -34,8 +33,7 @@ pub extern "C" fn log_new(
 }
 
 // The leader's own records. Value: last.
-#[unsafe(no_mangle)]
-pub extern "C" fn log_append(
+pub fn log_append(
     log: &mut [u64],
     settled: &[u64],
     pending: &mut [u64],
@@ -56,8 +54,7 @@ pub extern "C" fn log_append(
 }
 
 // Committed is i, where it was below.
-#[unsafe(no_mangle)]
-pub extern "C" fn log_commit_to(log: &mut [u64], settled: &[u64], pending: &[u64], i: u64) -> u64
+pub fn log_commit_to(log: &mut [u64], settled: &[u64], pending: &[u64], i: u64) -> u64
     ensures { leaves result (log.new ∷ []) ≡ commit_to_leaves log.old settled.now pending.now i }
 {
     if log.len() < LOG {
@@ -69,8 +66,7 @@ pub extern "C" fn log_commit_to(log: &mut [u64], settled: &[u64], pending: &[u64
 }
 
 // Commits i where it is a record of term t above committed. Value: 1 for yes, 0 for no.
-#[unsafe(no_mangle)]
-pub extern "C" fn log_maybe_commit(
+pub fn log_maybe_commit(
     log: &mut [u64],
     settled: &[u64],
     pending: &[u64],
@@ -92,8 +88,7 @@ pub extern "C" fn log_maybe_commit(
 }
 
 // Applied is i; 0 changes nothing.
-#[unsafe(no_mangle)]
-pub extern "C" fn log_applied_to(log: &mut [u64], settled: &[u64], pending: &[u64], i: u64) -> u64
+pub fn log_applied_to(log: &mut [u64], settled: &[u64], pending: &[u64], i: u64) -> u64
     ensures { leaves result (log.new ∷ []) ≡ applied_to_leaves log.old settled.now pending.now i }
 {
     if log.len() < LOG {
@@ -105,8 +100,7 @@ pub extern "C" fn log_applied_to(log: &mut [u64], settled: &[u64], pending: &[u6
 }
 
 // Persisted is i where it is a settled record of term t above persisted. Value: 1 for yes, 0 for no.
-#[unsafe(no_mangle)]
-pub extern "C" fn log_maybe_persist(
+pub fn log_maybe_persist(
     log: &mut [u64],
     settled: &[u64],
     pending: &[u64],
@@ -128,8 +122,7 @@ pub extern "C" fn log_maybe_persist(
 }
 
 // Pending records that were written go over to the settled ones.
-#[unsafe(no_mangle)]
-pub extern "C" fn log_stable_entries(
+pub fn log_stable_entries(
     log: &mut [u64],
     settled: &mut [u64],
     pending: &[u64],
