@@ -5,6 +5,3 @@ pub mod Freeing
 pub mod Lists
 pub mod Queue
 pub mod Stays
-pub mod Walk
-pub mod Thin
-pub mod Lent

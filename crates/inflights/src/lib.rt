@@ -1,3 +1,4 @@
+#![tactic(auto)]
 // The inflight window (tracker/inflights.rs of the crate): a queue of flights in a lent ring of words.
 // Ported from raft 0.7.0, Copyright 2019 TiKV Project Authors, Copyright 2015 The etcd Authors, Apache-2.0 (see NOTICE).
 // The state is handed in and back; `in_place` has the same calls on a window that is changed where it lies.
@@ -15,14 +16,14 @@ use crate::state::{cap_fits, checked, empty, has_room, is_full, next_cap, with_c
 use units::{Check, YesOrNo};
 
 // A smaller cap that waits until the queue is empty (the crate's `incoming_cap`).
-#[derive(Drop)]
+#[derive(Clone, Copy)]
 pub enum Deferred {
     Nothing,
     Cap(usize),
 }
 
 // A window of flights. The words stand in a ring that the caller lends to each call, always the same one.
-#[derive(Drop)]
+#[derive(Clone, Copy)]
 pub struct Inflights {
     // the ring's place of the first flight
     pub start: usize,
@@ -34,20 +35,20 @@ pub struct Inflights {
 }
 
 // What a call that changes the window answers: the window as it is now, or a refusal.
-#[derive(Drop)]
+#[derive(Clone, Copy)]
 pub enum Answer {
     Now(Inflights),
     Refused(u64),
 }
 
-#[derive(Drop)]
+#[derive(Clone, Copy)]
 pub enum Counted {
     Is(usize),
     Refused(u64),
 }
 
 // A window, and the number that a call in place answers: 0, or the refusal, beside which the window is as it was.
-#[derive(Drop)]
+#[derive(Clone, Copy)]
 pub struct Step {
     pub window: Inflights,
     pub code: u64,
@@ -55,6 +56,7 @@ pub struct Step {
 
 impl Inflights {
     // A window of no flights.
+    #[tactic(auto, unfolding(crate::specs::Calls::made_window))]
     pub fn new(cap: usize, ring: &[u64]) -> Answer
         ensures { result ≡ made_window cap (length ring.now) }
     {
@@ -66,6 +68,7 @@ impl Inflights {
     }
 
     // Adjusts the cap, 0 included. A smaller one waits until the queue is empty.
+    #[tactic(auto, unfolding(crate::specs::Calls::capped, crate::specs::Calls::set_cap_check))]
     pub fn set_cap(self, ring: &[u64], cap: usize) -> Answer
         ensures { result ≡ capped self (length ring.now) cap }
     {
@@ -77,6 +80,7 @@ impl Inflights {
     }
 
     // Whether no flight can be added.
+    #[tactic(auto, unfolding(crate::specs::Calls::fullness))]
     pub fn full(self, ring: &[u64]) -> YesOrNo
         ensures { result ≡ fullness self (length ring.now) }
     {
@@ -111,6 +115,7 @@ impl Inflights {
     }
 
     // Frees the flights in front that are at most `to`, up to the first larger one.
+    #[tactic(auto, using(crate::proofs::Facts::window_sound), unfolding(crate::specs::Calls::freed_to))]
     pub fn free_to(self, ring: &[u64], to: u64) -> Answer
         ensures { result ≡ freed_to self ring.now to }
     {
@@ -137,6 +142,7 @@ impl Inflights {
     }
 
     // Frees all flights.
+    #[tactic(auto, unfolding(crate::specs::Calls::cleared))]
     pub fn reset(self, ring: &[u64]) -> Answer
         ensures { result ≡ cleared self (length ring.now) }
     {
@@ -148,6 +154,7 @@ impl Inflights {
     }
 
     // Number of flights.
+    #[tactic(auto, unfolding(crate::specs::Calls::counted))]
     pub fn count(self, ring: &[u64]) -> Counted
         ensures { result ≡ counted self (length ring.now) }
     {
@@ -159,6 +166,7 @@ impl Inflights {
     }
 
     // Lets an empty queue begin at the ring's first word again. (The crate frees its buffer here.)
+    #[tactic(auto, unfolding(crate::specs::Calls::rewound, crate::specs::Calls::rewind))]
     pub fn maybe_free_buffer(self, ring: &[u64]) -> Answer
         ensures { result ≡ rewound self (length ring.now) }
     {

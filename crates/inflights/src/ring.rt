@@ -8,6 +8,7 @@ use crate::Inflights;
 use crate::state::take_up;
 
 // The place i behind the start, in a ring of n words: the sum modulo n.
+#[tactic(auto, using(crate::proofs::Places::place_low, crate::proofs::Places::go_round))]
 pub fn place(start: usize, i: usize, n: usize) -> usize
     requires { InRing start i n }
     ensures { result ≡ place_of start i n }
@@ -20,6 +21,7 @@ pub fn place(start: usize, i: usize, n: usize) -> usize
 }
 
 // The place right behind.
+#[tactic(auto, using(crate::proofs::Places::place_low, crate::proofs::Places::place_high))]
 fn next(at: usize, n: usize) -> usize
     requires { at < n }
     ensures { result ≡ place_of at 1 n }
@@ -50,6 +52,7 @@ fn lead(start: usize, count: usize, ring: &[u64], to: u64) -> usize
 }
 
 // The window without those flights.
+#[tactic(auto, using(crate::proofs::Leading::leading_at_most), unfolding(crate::specs::Calls::free_to))]
 pub fn freed(w: Inflights, ring: &[u64], to: u64) -> Inflights
     requires { Sound w (length ring.now) }
     ensures { result ≡ free_to w ring.now to }

@@ -8,6 +8,7 @@ use units::Check;
 use units::refusal::{BROKEN_WINDOW, NO_ROOM, WINDOW_FULL};
 
 // The start lies in a ring of n words, or is 0: an empty ring has start 0.
+#[tactic(auto, unfolding(crate::specs::State::start_fits))]
 fn start_fits(start: usize, n: usize) -> bool
     ensures { result ≡ start_fits start n }
 {
@@ -15,6 +16,7 @@ fn start_fits(start: usize, n: usize) -> bool
 }
 
 // A deferred cap is below the cap, and stands beside no empty queue.
+#[tactic(auto, unfolding(crate::specs::State::deferred_fits))]
 fn deferred_fits(deferred: Deferred, count: usize, cap: usize) -> bool
     ensures { result ≡ deferred_fits deferred count cap }
 {
@@ -25,6 +27,7 @@ fn deferred_fits(deferred: Deferred, count: usize, cap: usize) -> bool
 }
 
 // 13 where the state is broken, for a ring of n words.
+#[tactic(auto, unfolding(crate::specs::State::window_check, crate::specs::State::sound))]
 pub fn checked(w: Inflights, n: usize) -> Check
     ensures { result ≡ window_check w n }
 {
@@ -48,6 +51,7 @@ pub fn checked(w: Inflights, n: usize) -> Check
 }
 
 // 7 where a ring of n words has no room for so many flights.
+#[tactic(auto, unfolding(crate::specs::State::cap_check))]
 pub fn cap_fits(cap: usize, n: usize) -> Check
     ensures { result ≡ cap_check cap n }
 {
@@ -67,6 +71,7 @@ fn reaches(deferred: Deferred, count: usize) -> bool
     smaller <= count
 }
 
+#[tactic(auto, unfolding(crate::specs::State::is_full))]
 pub fn is_full(w: Inflights) -> bool
     ensures { result ≡ is_full w }
 {
@@ -75,6 +80,7 @@ pub fn is_full(w: Inflights) -> bool
 }
 
 // 11 where the window is full.
+#[tactic(auto, unfolding(crate::specs::State::room_check))]
 pub fn has_room(w: Inflights) -> Check
     ensures { result ≡ room_check w }
 {
@@ -97,6 +103,7 @@ pub fn empty(cap: usize) -> Inflights
 }
 
 // The window with a new cap: at once where it is not smaller or the queue is empty, else deferred.
+#[tactic(auto, unfolding(crate::specs::Calls::with_cap))]
 pub fn with_cap(w: Inflights, cap: usize) -> Inflights
     ensures { result ≡ with_cap w cap }
 {
@@ -131,6 +138,7 @@ pub fn next_cap(w: Inflights) -> usize
 }
 
 // A queue that has become empty takes up the cap that waits.
+#[tactic(auto, unfolding(crate::specs::Calls::take_up))]
 pub fn take_up(w: Inflights) -> Inflights
     ensures { result ≡ take_up w }
 {
