@@ -1,7 +1,7 @@
 -- The promises of `Calls` as a queue: what each call that answers a window does to its list of flights, and what `full` and `count` say of it.
---     add-puts-last, add-writes-one-word      `add`               free-to-frees, free-first-frees      `free_to`, `free_first_one`
---     set-cap-keeps, rewind-keeps             the list stays      reset-empties, new-empty             it is empty
---     full-means, not-full-means, count-means
+--     add_puts_last, add_writes_one_word      `add`               free_to_frees, free_first_frees      `free_to`, `free_first_one`
+--     set_cap_keeps, rewind_keeps             the list stays      reset_empties, new_empty             it is empty
+--     full_means, not_full_means, count_means
 use Prim.Native.Nat.{ℕ, zero, suc, ◌+◌, ◌-◌, ◌≤◌, ◌<◌}
 use mathlib.Core.Path.{◌≡◌, refl, sym, ap, ◌∙◌, subst}
 use mathlib.Core.Bool.{Bool, true, false, ◌||◌, cond}
@@ -24,7 +24,7 @@ use Rattle.units.proofs.Never.{never}
 use Rattle.units.proofs.Lists.{length-listed, same_listed, drop-listed, append-listed}
 use Rattle.inflights.specs.State.{window_check, cap_check, is_full, deferred_reached, empty_of, Sound}
 use Rattle.inflights.specs.Ring.{place_of, flight_at, flights_from, flights, leading}
-use Rattle.inflights.specs.Calls.{window_unless, count_unless, made_window, with_cap, set_cap_check, capped, fullness, counted, add_check, one_more, added, ring_after, taken_up, take_up, behind, free_to, freed_to, freed_first, next_cap, cleared, rewound_to_zero, rewind, rewound}
+use Rattle.inflights.specs.Calls.{window_unless, count_unless, made_window, with_cap, set_cap_check, capped, fullness, counted, add_check, one_more, added, ring_after, taken_up, take_up, behind, free_to, freed_to, freed_first, cleared, rewound_to_zero, rewind, rewound}
 use Rattle.inflights.specs.Queue.{Frees, Reached, IsFull}
 use Rattle.inflights.specs.declared.Deferred.{Deferred}
 use Rattle.inflights.specs.declared.Deferred.TheVariants.{Nothing, Cap}
@@ -134,7 +134,7 @@ rewind_keeps w ring e = of_answer (λ v. flights v ring ≡ flights w ring) (win
 
 pub reset_empties : (w : Inflights) (ring : List ℕ) {v : Inflights} → cleared w (length ring) ≡ Now v → flights v ring ≡ []
 unfolding cleared
-reset_empties w ring e = of_answer (λ v. flights v ring ≡ []) (window_check w (length ring)) (empty_of (next_cap w)) (λ _. no_flights 0 0 ring refl) e
+reset_empties w ring e = of_answer (λ v. flights v ring ≡ []) (window_check w (length ring)) _ (λ _. no_flights 0 0 ring refl) e
 
 pub new_empty : (cap : ℕ) (ring : List ℕ) {v : Inflights} → made_window cap (length ring) ≡ Now v → flights v ring ≡ []
 unfolding made_window

@@ -1,4 +1,4 @@
--- A call that answers a window answers one that passes the check (`..-stays`), and no later call on that ring refuses such a window with 13 (`never_broken`).
+-- A call that answers a window answers one that passes the check (`.._stays`), and no later call on that ring refuses such a window with 13 (`never_broken`).
 use Prim.Native.Nat.{ℕ, zero, suc, ◌+◌, ◌-◌, ◌≤◌, ◌<◌, max}
 use mathlib.Core.Path.{◌≡◌, refl, sym, subst}
 use mathlib.Core.Bool.{Bool, not}
@@ -16,7 +16,7 @@ use Rattle.units.proofs.Cond.{either_end, both_ends}
 use Rattle.units.proofs.Checks.{Refuses, fine_refuses, rule_refuses, both_refuse, handed_over}
 use Rattle.inflights.specs.State.{window_check, cap_check, is_full, room_check, empty_of, Waits, Sound}
 use Rattle.inflights.specs.Ring.{place_of, flights, leading}
-use Rattle.inflights.specs.Calls.{window_unless, made_window, with_cap, set_cap_check, capped, add_check, one_more, added, ring_after, taken_up, take_up, free_to, freed_to, freed_first, cap_on_empty, next_cap, cleared, rewind, rewound, count_unless, fullness, counted}
+use Rattle.inflights.specs.Calls.{window_unless, made_window, with_cap, set_cap_check, capped, add_check, one_more, added, ring_after, taken_up, take_up, free_to, freed_to, freed_first, cap_on_empty, cleared, rewind, rewound, count_unless, fullness, counted}
 use Rattle.inflights.specs.Queue.{NeverBroken}
 use Rattle.inflights.specs.declared.Deferred.{Deferred}
 use Rattle.inflights.specs.declared.Deferred.TheVariants.{Nothing, Cap}
@@ -50,9 +50,9 @@ never_broken w ring f =
       count = count_not (window_check w (length ring)) w.count ok;
       set_cap = λ cap. window_not (set_cap_check w (length ring) cap) (with_cap w cap) (both_refuse Other (window_check w (length ring)) ok (rule_refuses Other (leb cap (length ring)) (λ e. omega arith)));
       add = window_not (add_check w (length ring)) (one_more w) (both_refuse Other (window_check w (length ring)) ok (rule_refuses Other (not (is_full w)) (λ e. omega arith)));
-      free_to_lem = λ to. window_not (window_check w (length ring)) (free_to w ring to) ok;
+      free_to = λ to. window_not (window_check w (length ring)) (free_to w ring to) ok;
       free_first_one = window_not (window_check w (length ring)) (free_to w ring (get_or (flights w ring) 0 0)) ok;
-      reset = window_not (window_check w (length ring)) (empty_of (next_cap w)) ok;
+      reset = window_not (window_check w (length ring)) _ ok;
       maybe_free_buffer = window_not (window_check w (length ring)) (rewind w) ok;
     }
 
@@ -134,7 +134,7 @@ free_first_stays w ring e = free_to_stays w ring (get_or (flights w ring) 0 0) e
 
 pub reset_stays : (w : Inflights) (n : ℕ) {v : Inflights} → cleared w n ≡ answer.Now v → window_check v n ≡ Fine
 unfolding cleared
-reset_stays w n e = stays n (window_check w n) (empty_of (next_cap w)) (λ g. let s = window_sound w n g in empty_sound (next_cap w) n (next_fits w.deferred w.count w.cap n s.waits s.cap_ring)) e
+reset_stays w n e = stays n (window_check w n) _ (λ g. let s = window_sound w n g in empty_sound _ n (next_fits w.deferred w.count w.cap n s.waits s.cap_ring)) e
 
 pub rewind_stays : (w : Inflights) (n : ℕ) {v : Inflights} → rewound w n ≡ answer.Now v → window_check v n ≡ Fine
 unfolding rewound

@@ -41,7 +41,7 @@ pub record NeverBroken (w : Inflights) (ring : List ℕ) : Type 0 where
   pub count : counted w (length ring) ≢ count-is.Refused broken_window
   pub set_cap : (cap : ℕ) → capped w (length ring) cap ≢ Refused broken_window
   pub add : added w (length ring) ≢ Refused broken_window
-  pub free_to_lem : (to : ℕ) → freed_to w ring to ≢ Refused broken_window
+  pub free_to : (to : ℕ) → freed_to w ring to ≢ Refused broken_window
   pub free_first_one : freed_first w ring ≢ Refused broken_window
   pub reset : cleared w (length ring) ≢ Refused broken_window
   pub maybe_free_buffer : rewound w (length ring) ≢ Refused broken_window

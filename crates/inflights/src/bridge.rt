@@ -1,5 +1,5 @@
 // The calls in place for whoever holds a window by value: each lends it to the call and hands back what then lies there.
-// A function that lends a window has to be proved by hand; whoever goes over this bridge has not.
+// The programs that run the cases go over this bridge, so that the calls in place are run, and not only proved.
 ghost use Rattle.std.specs.Prelude.{◌≡◌, length};
 ghost use Rattle.inflights.specs.Calls.{capped, added, ring_after, freed_to, freed_first, cleared, rewound};
 ghost use Rattle.inflights.specs.InPlace.{step_of};
@@ -15,7 +15,8 @@ pub fn set_cap(w: Inflights, ring: &[u64], cap: usize) -> Step
 }
 
 pub fn add(w: Inflights, ring: &mut [u64], inflight: u64) -> Step
-    ensures { (result ≡ step_of w (added w (length ring.old))) × (ring.new ≡ ring_after w ring.old inflight) }
+    ensures step { result ≡ step_of w (added w (length ring.old)) }
+    ensures words { ring.new ≡ ring_after w ring.old inflight }
 {
     let mut window = w;
     let code = crate::in_place::add(&mut window, ring, inflight);

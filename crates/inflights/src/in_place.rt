@@ -15,7 +15,8 @@ pub fn set_cap(w: &mut Inflights, ring: &[u64], cap: usize) -> u64
 }
 
 pub fn add(w: &mut Inflights, ring: &mut [u64], inflight: u64) -> u64
-    ensures { Stored result w.new (step_of w.old (added w.old (length ring.old))) × (ring.new ≡ ring_after w.old ring.old inflight) }
+    ensures step { Stored result w.new (step_of w.old (added w.old (length ring.old))) }
+    ensures words { ring.new ≡ ring_after w.old ring.old inflight }
 {
     let s = crate::steps::add(*w, ring, inflight);
     *w = s.window;

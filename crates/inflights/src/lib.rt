@@ -92,6 +92,7 @@ impl Inflights {
     }
 
     // Adds a flight behind the last one: the only call that writes a word.
+    #[tactic(auto, using(crate::proofs::Facts::may_add, crate::proofs::Places::place_in), unfolding(crate::specs::Calls::added, crate::specs::Calls::ring_after, crate::specs::Calls::add_check))]
     pub fn add(self, ring: &mut [u64], inflight: u64) -> Answer
         ensures answer { result ≡ added self (length ring.old) }
         ensures words { ring.new ≡ ring_after self ring.old inflight }
@@ -127,6 +128,7 @@ impl Inflights {
     }
 
     // Frees the first flight, and with it those right behind it that are at most as large.
+    #[tactic(auto, using(crate::proofs::Facts::window_sound, crate::proofs::Freeing::first_flight, crate::proofs::Freeing::frees_nothing), unfolding(crate::specs::Calls::freed_first, crate::specs::Calls::freed_to))]
     pub fn free_first_one(self, ring: &[u64]) -> Answer
         ensures { result ≡ freed_first self ring.now }
     {

@@ -34,6 +34,7 @@ fn next(at: usize, n: usize) -> usize
 }
 
 // How many flights in front are at most `to`.
+#[tactic(auto, using(crate::proofs::Leading::walk_stops, crate::proofs::Leading::walk_ends))]
 fn lead(start: usize, count: usize, ring: &[u64], to: u64) -> usize
     requires { InRing start count (length ring.now) }
     ensures { result ≡ leading to (flights_from start count ring.now) }

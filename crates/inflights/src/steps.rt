@@ -24,7 +24,8 @@ pub fn set_cap(w: Inflights, ring: &[u64], cap: usize) -> Step
 }
 
 pub fn add(w: Inflights, ring: &mut [u64], inflight: u64) -> Step
-    ensures { (result ≡ step_of w (added w (length ring.old))) × (ring.new ≡ ring_after w ring.old inflight) }
+    ensures step { result ≡ step_of w (added w (length ring.old)) }
+    ensures words { ring.new ≡ ring_after w ring.old inflight }
 {
     settle(w, w.add(ring, inflight))
 }
