@@ -61,6 +61,7 @@ fn first_conflict(log: Log, settled: &[u64], pending: &[u64], idx: u64, run: &[u
 }
 
 // Refusals 6 and 7, or the log after the message: n records, k of them before the first that differs.
+#[tactic(auto, unfolding(crate::specs::Append::decide))]
 fn decided(log: Log, pending: &[u64], idx: u64, commit: u64, n: u64, k: u64) -> Appended
     requires { (idx + n ≤ index_limit) × (log.count ≤ room pending.now) }
     ensures { result ≡ decide log pending.now idx commit n k }
@@ -98,6 +99,7 @@ fn decided(log: Log, pending: &[u64], idx: u64, commit: u64, n: u64, k: u64) -> 
 }
 
 // Previous term 0 and an index outside the log.
+#[tactic(auto, unfolding(crate::specs::Append::outside))]
 fn is_outside(log: Log, settled: &[u64], pending: &[u64], idx: u64, term: u64) -> bool
     requires { Good log settled.now pending.now }
     ensures { result ≡ outside log idx term }
@@ -112,6 +114,7 @@ fn is_outside(log: Log, settled: &[u64], pending: &[u64], idx: u64, term: u64) -
 }
 
 // Refusals 4 and 5, then those of the run's records.
+#[tactic(auto, unfolding(crate::specs::Append::match_run))]
 fn matched(
     log: Log,
     settled: &[u64],
@@ -160,6 +163,7 @@ pub fn maybe_append_answer(
 }
 
 // Refusals 6, 8, 7 and 8, or the log after a run of n records from index `first` on.
+#[tactic(auto, unfolding(crate::specs::Extend::extend_from))]
 fn extended(log: Log, pending: &[u64], first: u64, n: u64) -> Extended
     requires le_first { (1 ≤ first) × (1 ≤ n) × (first + n ≤ word_max) }
     requires le_offset { (1 ≤ log.offset.0) × (log.offset.0 + log.count ≤ word_max) }

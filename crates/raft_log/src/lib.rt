@@ -1,3 +1,4 @@
+#![tactic(auto)]
 // The log of document 01 (raft_log.rs, log_unstable.rs): its state by value, its records in two lent stores.
 // Ported from raft 0.7.0, Copyright 2019 TiKV Project Authors, Copyright 2015 The etcd Authors, Apache-2.0 (see NOTICE).
 mod append;
@@ -24,7 +25,7 @@ use units::{Index, Term, YesOrNo, smaller};
 use words::store_term;
 
 // The state beside the stores: settled holds the records start + 1 to offset - 1, pending those from offset on.
-#[derive(Drop)]
+#[derive(Clone, Copy)]
 pub struct Log {
     pub start: Index,
     pub startterm: Term,
@@ -36,7 +37,7 @@ pub struct Log {
 }
 
 // The answers, one for each shape: the value, or the refusal's number alone.
-#[derive(Drop)]
+#[derive(Clone, Copy)]
 pub enum Appended {
     Done {
         conflict: Index,
@@ -46,44 +47,44 @@ pub enum Appended {
     Refused(u64),
 }
 
-#[derive(Drop)]
+#[derive(Clone, Copy)]
 pub enum Extended {
     Last(Index, Log),
     Refused(u64),
 }
 
-#[derive(Drop)]
+#[derive(Clone, Copy)]
 pub enum Changed {
     Now(Log),
     Refused(u64),
 }
 
-#[derive(Drop)]
+#[derive(Clone, Copy)]
 pub enum Decided {
     Yes(Log),
     No,
     Refused(u64),
 }
 
-#[derive(Drop)]
+#[derive(Clone, Copy)]
 pub enum Looked {
     At(Term),
     Refused(u64),
 }
 
-#[derive(Drop)]
+#[derive(Clone, Copy)]
 pub enum Placed {
     At(Index),
     Refused(u64),
 }
 
-#[derive(Drop)]
+#[derive(Clone, Copy)]
 pub enum Info {
     At(Index, Term),
     Refused(u64),
 }
 
-#[derive(Drop)]
+#[derive(Clone, Copy)]
 pub enum ByTerm {
     Found { index: Index, term: Term },
     Beyond(Index),
@@ -91,7 +92,7 @@ pub enum ByTerm {
 }
 
 // Where a run of records stands: the indices from low up to, not including, high, in one store.
-#[derive(Drop)]
+#[derive(Clone, Copy)]
 pub enum Bounds {
     Empty,
     Settled { low: Index, high: Index },
@@ -107,6 +108,7 @@ impl Log {
     pub const RUN: usize = 3;
 
     // Set-up over a settled store that holds the records after start up to last.
+    #[tactic(auto, unfolding(crate::specs::Setup::new_log))]
     pub fn new(
         start: Index,
         start_term: Term,
@@ -136,6 +138,7 @@ impl Log {
     }
 
     // The term at an index, 0 outside the log.
+    #[tactic(auto, using(crate::proofs::States::ok_good), unfolding(crate::specs::Look::look_term))]
     pub fn term(self, settled: &[u64], pending: &[u64], i: Index) -> Looked
         ensures { result ≡ look_term self settled.now pending.now i.0 }
     {
@@ -146,6 +149,7 @@ impl Log {
         Looked::At(Term(term))
     }
 
+    #[tactic(auto, using(crate::proofs::States::ok_good), unfolding(crate::specs::Look::first_index))]
     pub fn first_index(self, settled: &[u64], pending: &[u64]) -> Placed
         ensures { result ≡ first_index self settled.now pending.now }
     {
@@ -156,6 +160,7 @@ impl Log {
         Placed::At(Index(first))
     }
 
+    #[tactic(auto, using(crate::proofs::States::ok_good), unfolding(crate::specs::Look::last_index))]
     pub fn last_index(self, settled: &[u64], pending: &[u64]) -> Placed
         ensures { result ≡ last_index self settled.now pending.now }
     {
@@ -166,6 +171,7 @@ impl Log {
         Placed::At(Index(last))
     }
 
+    #[tactic(auto, using(crate::proofs::States::ok_good), unfolding(crate::specs::Look::last_term))]
     pub fn last_term(self, settled: &[u64], pending: &[u64]) -> Looked
         ensures { result ≡ last_term self settled.now pending.now }
     {
@@ -178,6 +184,7 @@ impl Log {
     }
 
     // The index and the term of the last committed record.
+    #[tactic(auto, using(crate::proofs::States::ok_good), unfolding(crate::specs::Look::commit_info))]
     pub fn commit_info(self, settled: &[u64], pending: &[u64]) -> Info
         ensures { result ≡ commit_info self settled.now pending.now }
     {
@@ -190,6 +197,7 @@ impl Log {
     }
 
     // Whether a log that ends with (i, t) is at least as up to date as this one.
+    #[tactic(auto, using(crate::proofs::States::ok_good), unfolding(crate::specs::Look::is_up_to_date))]
     pub fn is_up_to_date(self, settled: &[u64], pending: &[u64], i: Index, t: Term) -> YesOrNo
         ensures { result ≡ is_up_to_date self settled.now pending.now i.0 t.0 }
     {
@@ -208,6 +216,7 @@ impl Log {
     }
 
     // The largest index at most i whose term is at most t, with its term.
+    #[tactic(auto, using(crate::proofs::States::ok_good), unfolding(crate::specs::Look::find_conflict_by_term))]
     pub fn find_conflict_by_term(
         self,
         settled: &[u64],
@@ -274,6 +283,7 @@ impl Log {
     }
 
     // Committed is i, where it was below.
+    #[tactic(auto, using(crate::proofs::States::ok_good), unfolding(crate::specs::Commit::commit_to))]
     pub fn commit_to(self, settled: &[u64], pending: &[u64], i: Index) -> Changed
         ensures { result ≡ commit_to self settled.now pending.now i.0 }
     {
@@ -293,6 +303,7 @@ impl Log {
     }
 
     // Commits i where it is a record of term t above committed.
+    #[tactic(auto, using(crate::proofs::States::ok_good), unfolding(crate::specs::Commit::maybe_commit))]
     pub fn maybe_commit(self, settled: &[u64], pending: &[u64], i: Index, t: Term) -> Decided
         ensures { result ≡ maybe_commit self settled.now pending.now i.0 t.0 }
     {
@@ -315,6 +326,7 @@ impl Log {
     }
 
     // Applied is i; 0 changes nothing.
+    #[tactic(auto, using(crate::proofs::States::ok_good), unfolding(crate::specs::Commit::applied_to))]
     pub fn applied_to(self, settled: &[u64], pending: &[u64], i: Index) -> Changed
         ensures { result ≡ applied_to self settled.now pending.now i.0 }
     {
@@ -337,6 +349,7 @@ impl Log {
     }
 
     // Persisted is i where it is a settled record of term t above persisted.
+    #[tactic(auto, using(crate::proofs::States::ok_good), unfolding(crate::specs::Commit::maybe_persist))]
     pub fn maybe_persist(self, settled: &[u64], pending: &[u64], i: Index, t: Term) -> Decided
         ensures { result ≡ maybe_persist self settled.now pending.now i.0 t.0 }
     {
@@ -374,6 +387,7 @@ impl Log {
     }
 
     // The bounds of the records from low up to high, or the refusal.
+    #[tactic(auto, using(crate::proofs::States::ok_good), unfolding(crate::specs::Slice::slice_bounds))]
     pub fn slice_bounds(self, settled: &[u64], pending: &[u64], low: Index, high: Index) -> Bounds
         ensures { result ≡ slice_bounds self settled.now pending.now low.0 high.0 }
     {
@@ -398,6 +412,7 @@ impl Log {
     }
 
     // All records from i on, as far as one store holds them.
+    #[tactic(auto, using(crate::proofs::States::ok_good), unfolding(crate::specs::Slice::entries_bounds))]
     pub fn entries_bounds(self, settled: &[u64], pending: &[u64], i: Index) -> Bounds
         ensures { result ≡ entries_bounds self settled.now pending.now i.0 }
     {
@@ -419,6 +434,7 @@ impl Log {
     }
 
     // Whether records after s are committed and persisted.
+    #[tactic(auto, using(crate::proofs::States::ok_good), unfolding(crate::specs::Slice::has_next_entries_since))]
     pub fn has_next_entries_since(self, settled: &[u64], pending: &[u64], s: Index) -> YesOrNo
         ensures { result ≡ has_next_entries_since self settled.now pending.now s.0 }
     {
@@ -429,6 +445,7 @@ impl Log {
     }
 
     // Those records, as far as one store holds them.
+    #[tactic(auto, using(crate::proofs::States::ok_good), unfolding(crate::specs::Slice::next_entries_bounds_since))]
     pub fn next_entries_bounds_since(self, settled: &[u64], pending: &[u64], s: Index) -> Bounds
         ensures { result ≡ next_entries_bounds_since self settled.now pending.now s.0 }
     {
@@ -457,6 +474,7 @@ impl Log {
 }
 
 // The part that the bounds name.
+#[tactic(auto, unfolding(crate::specs::Slice::part_of))]
 fn part<'a>(log: Log, settled: &'a [u64], pending: &'a [u64], bounds: Bounds) -> &'a [u64]
     ensures { result.now ≡ part_of bounds log settled.now pending.now }
 {
@@ -469,6 +487,7 @@ fn part<'a>(log: Log, settled: &'a [u64], pending: &'a [u64], bounds: Bounds) ->
 }
 
 // Settled's first record is the one after the start.
+#[tactic(auto, unfolding(crate::specs::Slice::store_part))]
 fn settled_part(settled: &[u64], start: u64, low: u64, high: u64) -> &[u64]
     ensures { result.now ≡ store_part settled.now (start + 1) low high }
 {
@@ -479,6 +498,7 @@ fn settled_part(settled: &[u64], start: u64, low: u64, high: u64) -> &[u64]
 }
 
 // What set-up is handed meets the state rules.
+#[tactic(auto, unfolding(crate::specs::Setup::setup_ok))]
 fn setup_ok(start: u64, start_term: u64, last: u64, settled: &[u64]) -> bool
     ensures { result ≡ setup_ok start start_term last settled.now }
 {
@@ -510,6 +530,7 @@ fn first_zero(store: &[u64], n: u64) -> u64
 }
 
 // Refusals 1, 7 and 10 of `stable_entries`, or the log after it.
+#[tactic(auto, using(crate::proofs::States::ok_good), unfolding(crate::specs::Settle::stable_entries))]
 fn stable_entries_answer(log: Log, settled: &[u64], pending: &[u64], i: u64, t: u64) -> Changed
     ensures { result ≡ stable_entries log settled.now pending.now i t }
 {

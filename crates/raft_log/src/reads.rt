@@ -25,6 +25,7 @@ fn last_below(log: Log, settled: &[u64], pending: &[u64], i: u64, t: u64) -> u64
     0
 }
 
+#[tactic(auto, unfolding(crate::specs::Look::by_term_in))]
 pub fn by_term(log: Log, settled: &[u64], pending: &[u64], i: u64, t: u64) -> ByTerm
     requires { Good log settled.now pending.now }
     ensures { result ≡ by_term_in log settled.now pending.now i t }
@@ -41,6 +42,7 @@ pub fn by_term(log: Log, settled: &[u64], pending: &[u64], i: u64, t: u64) -> By
 }
 
 // A run from low, ending at high or at the store boundary.
+#[tactic(auto, unfolding(crate::specs::Slice::in_store))]
 pub fn in_store(log: Log, low: u64, high: u64) -> Bounds
     ensures { result ≡ in_store log low high }
 {
@@ -61,6 +63,7 @@ pub fn in_store(log: Log, low: u64, high: u64) -> Bounds
     }
 }
 
+#[tactic(auto, unfolding(crate::specs::Slice::slice_in))]
 pub fn slice_in(log: Log, settled: &[u64], pending: &[u64], low: u64, high: u64) -> Bounds
     requires { Good log settled.now pending.now }
     ensures { result ≡ slice_in log low high }
@@ -78,6 +81,7 @@ pub fn slice_in(log: Log, settled: &[u64], pending: &[u64], low: u64, high: u64)
 }
 
 // Whether records after s are committed and persisted.
+#[tactic(auto, unfolding(crate::specs::Slice::has_next))]
 pub fn has_next(log: Log, settled: &[u64], pending: &[u64], s: u64) -> bool
     requires { Good log settled.now pending.now }
     ensures { result ≡ has_next log s }
@@ -90,6 +94,7 @@ pub fn has_next(log: Log, settled: &[u64], pending: &[u64], s: u64) -> bool
 }
 
 // Words of a store: those of the records from low up to high, where the store's first record is at index `first`; none where it has not so many.
+#[tactic(auto, unfolding(crate::specs::Slice::store_part))]
 pub fn store_part(store: &[u64], first: u64, low: u64, high: u64) -> &[u64]
     ensures { result.now ≡ store_part store.now first low high }
 {

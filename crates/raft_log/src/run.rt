@@ -11,7 +11,7 @@ use units::Index;
 use units::refusal::{MISNUMBERED_RUN, ZERO_TERM};
 
 // How many records a good run has, or its refusal.
-#[derive(Drop)]
+#[derive(Clone, Copy)]
 pub enum Checked {
     Records(u64),
     Refused(u64),

@@ -77,6 +77,7 @@ pub fn last_of(log: Log, settled: &[u64], pending: &[u64]) -> u64
 }
 
 // The term at an index, 0 outside the log.
+#[tactic(auto, unfolding(crate::specs::State::term_at))]
 pub fn term_at(log: Log, settled: &[u64], pending: &[u64], i: u64) -> u64
     requires { Good log settled.now pending.now }
     ensures { result ≡ term_at log settled.now pending.now i }
