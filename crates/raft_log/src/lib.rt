@@ -108,7 +108,7 @@ impl Log {
     pub const RUN: usize = 3;
 
     // Set-up over a settled store that holds the records after start up to last.
-    #[tactic(auto, unfolding(crate::specs::Setup::new_log))]
+    #[tactic(auto, using(crate::proofs::Setups::ok_sets_up, crate::proofs::Searching::found), unfolding(crate::specs::Setup::new_log))]
     pub fn new(
         start: Index,
         start_term: Term,
@@ -445,7 +445,7 @@ impl Log {
     }
 
     // Those records, as far as one store holds them.
-    #[tactic(auto, using(crate::proofs::States::ok_good), unfolding(crate::specs::Slice::next_entries_bounds_since))]
+    #[tactic(auto, using(crate::proofs::States::ok_good, crate::proofs::Slices::next_true), unfolding(crate::specs::Slice::next_entries_bounds_since))]
     pub fn next_entries_bounds_since(self, settled: &[u64], pending: &[u64], s: Index) -> Bounds
         ensures { result ≡ next_entries_bounds_since self settled.now pending.now s.0 }
     {
