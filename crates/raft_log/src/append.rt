@@ -141,6 +141,7 @@ fn matched(
 }
 
 // The answer of `maybe_append`.
+#[tactic(auto, using(crate::proofs::States::ok_good), unfolding(crate::specs::Append::maybe_append))]
 pub fn maybe_append_answer(
     log: Log,
     settled: &[u64],
@@ -191,6 +192,7 @@ fn extended(log: Log, pending: &[u64], first: u64, n: u64) -> Extended
 }
 
 // The answer of `append`.
+#[tactic(auto, using(crate::proofs::States::ok_good), unfolding(crate::specs::Extend::append_run))]
 pub fn append_run_answer(log: Log, settled: &[u64], pending: &[u64], run: &[u64]) -> Extended
     ensures { result ≡ append_run log settled.now pending.now run.now }
 {

@@ -445,7 +445,7 @@ impl Log {
     }
 
     // Those records, as far as one store holds them.
-    #[tactic(auto, using(crate::proofs::States::ok_good, crate::proofs::Slices::next_true), unfolding(crate::specs::Slice::next_entries_bounds_since))]
+    #[tactic(auto, using(crate::proofs::States::ok_good), unfolding(crate::specs::Slice::next_entries_bounds_since))]
     pub fn next_entries_bounds_since(self, settled: &[u64], pending: &[u64], s: Index) -> Bounds
         ensures { result ≡ next_entries_bounds_since self settled.now pending.now s.0 }
     {

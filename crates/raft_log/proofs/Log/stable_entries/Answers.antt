@@ -1,0 +1,38 @@
+-- `stable_entries` meets its contract: where the answer is no refusal both stores have the room, and the copy is the settled store after it.
+use Rattle.std.proofs.Common.{sym, ◌∙◌, arith}
+use lib.Seq.{length-take-le}
+use Rattle.raft_log.proofs.Settling.{settle_room, settled_kept, settled_copied}
+use Rattle.raft_log.proofs.Log.stable_entries.Goals as goal
+
+pub returns-in_default-clause-store : goal.returns-in_default-clause-store
+returns-in_default-clause-store c = settled_kept _ _ _ c.in_default.is
+
+pub overflow_sub-at : goal.overflow_sub-at
+overflow_sub-at c =
+    let known = settle_room c.args.self c.args.settled.now c.args.pending.now c.args.i.0 c.args.t.0 (sym c.in-Now.ensures) in
+    omega arith
+
+pub overflow_sub-at-2 : goal.overflow_sub-at-2
+overflow_sub-at-2 c =
+    let known = settle_room c.args.self c.args.settled.now c.args.pending.now c.args.i.0 c.args.t.0 (sym c.in-Now.ensures) in
+    omega arith
+
+pub overflow_mul-at : goal.overflow_mul-at
+overflow_mul-at c =
+    let known = settle_room c.args.self c.args.settled.now c.args.pending.now c.args.i.0 c.args.t.0 (sym c.in-Now.ensures) in
+    omega arith
+
+pub overflow_mul-n : goal.overflow_mul-n
+overflow_mul-n c =
+    let known = settle_room c.args.self c.args.settled.now c.args.pending.now c.args.i.0 c.args.t.0 (sym c.in-Now.ensures) in
+    omega arith
+
+pub slice_bounds-copy_at-end : goal.slice_bounds-copy_at-end
+slice_bounds-copy_at-end c =
+    let known = settle_room c.args.self c.args.settled.now c.args.pending.now c.args.i.0 c.args.t.0 (sym c.in-Now.ensures) in
+    sym (length-take-le _ _ (omega arith))
+
+pub returns-clause-store : goal.returns-clause-store
+returns-clause-store c =
+    let known = settle_room c.args.self c.args.settled.now c.args.pending.now c.args.i.0 c.args.t.0 (sym c.in-Now.ensures) in
+    c.copy_at.ensures ∙ settled_copied _ _ _ c.in-Now.is (omega arith) (omega arith)
