@@ -2,7 +2,7 @@
 use Rattle.std.proofs.Common.{◌-◌, ◌≤◌, arith}
 use Rattle.raft_log.specs.Words.{other_term}
 use Rattle.raft_log.proofs.Searching.{found}
-use Rattle.raft_log.proofs.Conflicts.{Held, conflict_held, conflict_settled, conflict_over}
+use Rattle.raft_log.proofs.Conflicts.{conflict_held, conflict_settled, conflict_over}
 use Rattle.raft_log.proofs.append.conflict_across.Goals as goal
 
 pub returns-then-held-gap : goal.returns-then-held-gap

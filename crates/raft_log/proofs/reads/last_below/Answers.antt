@@ -1,5 +1,4 @@
 -- `last_below` meets its contract: the search has passed every index above `j`.
-use Rattle.std.proofs.Common.{arith}
 use Rattle.raft_log.proofs.Downwards.{down_next, down_hit, down_end, at_most_lem, above}
 use Rattle.raft_log.proofs.reads.last_below.Goals as goal
 
