@@ -1,25 +1,26 @@
--- The answer of `maybe_append`: what its refusals tell, and the answer past the run's checks, on the closed functions of specs/Append.antt; the table read backwards; and what an answer with a conflict says to the copy.
+-- The answer of `maybe_append`: one law for each answer, on the closed functions of specs/Append.antt; the table read backwards; and what an answer with a conflict says to the copy.
 use mathlib.Core.Path.{◌≡◌, sym, ap}
 use mathlib.Core.Bool.{true, false, ◌||◌, or-true}
 use mathlib.Core.List.{List}
 use mathlib.Core.Logic.{◌⊎◌, ⊎_elim, inl, inr}
-use Prim.Native.Nat.{ℕ, ◌+◌, ◌-◌, ◌≤◌, ◌<◌, min}
+use Prim.Native.Nat.{ℕ, ◌+◌, ◌-◌, ◌≤◌, ◌<◌, min, max}
 use native.Mathlib.Omega.{arith}
 use native.Mathlib.Nat.{eq-zero-or-pos}
 use lib.Dec.{ltb}
-use borrow.Author.Tests.{eq-eqb, ne_eqb, lt-ltb, le-ltb, ltb-false, not-false}
+use borrow.Author.Tests.{eq-eqb, ne_eqb, le-leb, lt-leb, lt-ltb, le-ltb, ltb-false, not-false}
 use Rattle.units.specs.Units.{index_limit, index_of}
-use Rattle.units.specs.Refusals.{cuts_committed, no_room}
+use Rattle.units.specs.Refusals.{outside_log, mismatch, cuts_committed, no_room}
 use Rattle.units.specs.declared.Index.{Index}
 use Rattle.raft_log.specs.declared.Log.{Log}
 use Rattle.raft_log.specs.declared.Appended.{Appended}
 use Rattle.raft_log.specs.declared.Appended.TheVariants.{Done, Refused}
 use Rattle.raft_log.specs.declared.run.Checked.TheVariants.{Records, Refused as BadRun}
 use Rattle.raft_log.specs.Words.{room, run_count, put_run}
-use Rattle.raft_log.specs.State.{Good, broken, last_of}
+use Rattle.raft_log.specs.State.{Good, broken, term_at, last_of}
 use Rattle.raft_log.specs.Run.{misnumbered, zero_term_in, check_run}
-use Rattle.raft_log.specs.Append.{after_message, outside, mismatched, cuts, overfull, conflict_of, accepted, decide, match_run, maybe_append, maybe_append_store, alike_before}
+use Rattle.raft_log.specs.Append.{with_pending, with_committed, after_message, outside, mismatched, cuts, overfull, conflict_of, accepted, decide, match_run, maybe_append, maybe_append_store, alike_before}
 use Rattle.raft_log.proofs.States.{not_both, no_term}
+use Rattle.raft_log.proofs.Searching.{same_not, other_not}
 use Rattle.raft_log.proofs.Runs.{run_passed, run_refused, numbered_rises}
 use Rattle.units.proofs.Cond.{both_ends, past}
 use Rattle.units.proofs.Never.{never}
@@ -35,7 +36,32 @@ other_refusal other h = other cc
 -- ---- the decision
 
 module _ (l : Log) (pending : List ℕ) (idx commit n k : ℕ) where
-  -- no number below 6 is given by it
+  pub decide_same : {moved : ℕ} → n ≤ k → l.count ≤ room pending → moved ≡ max l.committed.0 (min commit (idx + n))
+      → decide l pending idx commit n k ≡ Done (index_of 0) (index_of (idx + n)) (with_committed l moved)
+  unfolding decide
+  decide_same h r e = simp (le-ltb _ _ h, le-ltb _ _ r, e)
+
+  pub decide_cuts : k < n → idx + 1 + k ≤ l.committed.0 → decide l pending idx commit n k ≡ Refused cuts_committed
+  unfolding decide
+  decide_cuts h c = simp (lt-ltb _ _ h, le-leb _ _ c)
+
+  pub decide_full : k < n → l.committed.0 < idx + 1 + k → room pending < idx + n + 1 - min l.offset.0 (idx + 1 + k)
+      → decide l pending idx commit n k ≡ Refused no_room
+  unfolding decide
+  decide_full h c r = simp (lt-ltb _ _ h, lt-leb _ _ c, lt-ltb _ _ r)
+
+  pub decide_done : {moved first persisted : ℕ}
+      → k < n → l.committed.0 < idx + 1 + k
+      → first ≡ min l.offset.0 (idx + 1 + k)
+      → idx + n + 1 - first ≤ room pending
+      → moved ≡ max l.committed.0 (min commit (idx + n))
+      → persisted ≡ min l.persisted.0 (idx + 1 + k - 1)
+      → decide l pending idx commit n k
+      ≡ Done (index_of (idx + 1 + k)) (index_of (idx + n)) (with_committed (with_pending l first (idx + n + 1 - first) persisted) moved)
+  unfolding decide
+  decide_done h c f r m p = simp (lt-ltb _ _ h, lt-leb _ _ c, le-ltb _ _ (rw f at r), f, m, p)
+
+  -- and no other number is given by it
   pub decide_refuses : {r : ℕ} → decide l pending idx commit n k ≡ Refused r → cuts_committed ≤ r
   unfolding decide
   decide_refuses {r} =
@@ -44,6 +70,22 @@ module _ (l : Log) (pending : List ℕ) (idx commit n k : ℕ) where
       (both_ends Given (overfull (after_message l idx n k commit) pending) (λ h. let same : no_room ≡ r = cc in omega arith) (λ h. absurd (no_done (sym h))))
 
 -- ---- the previous record
+
+module _ (l : Log) (settled pending : List ℕ) (idx term commit : ℕ) (run : List ℕ) (n : ℕ) where
+  pub match_outside : outside l idx term ≡ true → match_run l settled pending idx term commit run n ≡ Refused outside_log
+  unfolding match_run
+  match_outside h = simp h
+
+  pub match_mismatch : outside l idx term ≡ false → (term_at l settled pending idx ≡ term → ⊥)
+      → match_run l settled pending idx term commit run n ≡ Refused mismatch
+  unfolding match_run
+  match_mismatch h e = simp (h, other_not e)
+
+  pub match_on : outside l idx term ≡ false → term_at l settled pending idx ≡ term
+      → match_run l settled pending idx term commit run n
+      ≡ decide l pending idx commit n (alike_before l settled pending idx run n)
+  unfolding match_run
+  match_on h e = simp (h, same_not e)
 
 -- an index outside the log is refused by 4 or 5, since the term there is 0
 module _ (l : Log) (settled pending : List ℕ) (idx term : ℕ) (g : Good l settled pending) where

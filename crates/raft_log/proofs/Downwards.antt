@@ -1,17 +1,22 @@
--- A search downwards: what its loop keeps, and what the term that it reads says of the test.
-use mathlib.Core.Path.{◌≡◌, sym, ap, ◌∙◌}
+-- A search downwards: what its loop keeps, and the answers of `find_conflict_by_term` that rest on it.
+use mathlib.Core.Path.{◌≡◌, refl, sym, ap, ◌∙◌}
 use mathlib.Core.Bool.{Bool, true, false, cond}
 use mathlib.Core.List.{List}
 use Prim.Native.Nat.{ℕ, zero, suc, ◌-◌, ◌≤◌, ◌<◌}
 use native.Mathlib.Omega.{arith}
-use borrow.Author.Tests.{le-leb, lt-leb}
+use borrow.Author.Tests.{le-leb, lt-leb, lt-ltb, le-ltb}
+use Rattle.units.specs.Units.{index_of, as_term}
 use Rattle.raft_log.specs.declared.Log.{Log}
-use Rattle.raft_log.specs.State.{term_at}
-use Rattle.raft_log.specs.Look.{at_most, last_down}
+use Rattle.raft_log.specs.declared.ByTerm.TheVariants as by_term
+use Rattle.raft_log.specs.State.{term_at, last_of}
+use Rattle.raft_log.specs.Look.{at_most, last_down, by_term_in}
 
 -- the search from i down has passed every number above j
 pub record Down (p : ℕ → Bool) (i j : ℕ) : Type 0 where
   pub same : last_down p i ≡ last_down p j
+
+pub down_start : (p : ℕ → Bool) (i : ℕ) → Down p i i
+down_start p i = record { same = refl }
 
 one_step : (p : ℕ → Bool) (j : ℕ) → 0 < j → last_down p j ≡ cond (p j) j (last_down p (j - 1))
 unfolding last_down
@@ -41,3 +46,13 @@ module _ (l : Log) (settled pending : List ℕ) where
 
     pub above : t < read → at_most l settled pending t j ≡ false
     above h = lt-leb (term_at l settled pending j) t (omega arith)
+
+  module _ (i t : ℕ) where
+    pub by_beyond : last_of l < i → by_term_in l settled pending i t ≡ by_term.Beyond (index_of i)
+    unfolding by_term_in
+    by_beyond h = simp (lt-ltb _ _ h)
+
+    pub by_found : {j u : ℕ} → i ≤ last_of l → j ≡ last_down (at_most l settled pending t) i → u ≡ term_at l settled pending j
+        → by_term_in l settled pending i t ≡ by_term.Found (index_of j) (as_term u)
+    unfolding by_term_in
+    by_found h e f = simp (le-ltb _ _ h, f, e)

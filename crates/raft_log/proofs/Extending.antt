@@ -1,14 +1,14 @@
--- The answer of `append`: of an empty run, and past the run's checks, on the closed functions of specs/Extend.antt; the table read backwards; and what an answer with records says to the copy.
+-- The answer of `append`: one law for each answer, on the closed functions of specs/Extend.antt; the table read backwards; and what an answer with records says to the copy.
 use mathlib.Core.Path.{◌≡◌, sym, ap}
 use mathlib.Core.Bool.{false}
 use mathlib.Core.List.{List}
 use mathlib.Core.Logic.{⊎_elim}
-use Prim.Native.Nat.{ℕ, ◌+◌, ◌-◌, ◌≤◌, ◌<◌}
+use Prim.Native.Nat.{ℕ, ◌+◌, ◌-◌, ◌≤◌, ◌<◌, min}
 use native.Mathlib.Omega.{arith}
 use lib.ListN.{length}
-use borrow.Author.Tests.{eq-eqb, ne_eqb, ltb-false, leb-false}
+use borrow.Author.Tests.{eq-eqb, ne_eqb, le-leb, lt-leb, lt-ltb, le-ltb, ltb-false, leb-false}
 use Rattle.units.specs.Units.{index_of}
-use Rattle.units.specs.Refusals.{misnumbered_run}
+use Rattle.units.specs.Refusals.{misnumbered_run, cuts_committed, no_room, out_of_range}
 use Rattle.units.specs.declared.Index.{Index}
 use Rattle.raft_log.specs.declared.Log.{Log}
 use Rattle.raft_log.specs.declared.Extended.{Extended}
@@ -17,11 +17,40 @@ use Rattle.raft_log.specs.declared.run.Checked.TheVariants.{Records, Refused as 
 use Rattle.raft_log.specs.Words.{room, run_count, put_run, first_from}
 use Rattle.raft_log.specs.State.{last_of, broken}
 use Rattle.raft_log.specs.Run.{terms_set, zero_term_in, check_run}
-use Rattle.raft_log.specs.Append.{overfull}
+use Rattle.raft_log.specs.Append.{with_pending, overfull}
 use Rattle.raft_log.specs.Extend.{first_of, extended, bad_run, starts_committed, leaves_gap, starts_persisted, extend_from, append_run, append_run_store}
 use Rattle.raft_log.proofs.Runs.{run_passed, run_refused}
 use Rattle.units.proofs.Cond.{past}
 use Rattle.units.proofs.Never.{never}
+
+-- ---- a run that is not empty
+
+module _ (l : Log) (pending : List ℕ) (first n : ℕ) where
+  pub extend_committed : first ≤ l.committed.0 → extend_from l pending first n ≡ Refused cuts_committed
+  unfolding extend_from
+  extend_committed h = simp (le-leb _ _ h)
+
+  module _ (above : l.committed.0 < first) where
+    pub extend_gap : last_of l + 1 < first → extend_from l pending first n ≡ Refused out_of_range
+    unfolding extend_from
+    extend_gap h = simp (lt-leb _ _ above, lt-ltb _ _ h)
+
+    module _ (follows : first ≤ last_of l + 1) where
+      pub extend_full : room pending < first + n - 1 + 1 - min l.offset.0 first → extend_from l pending first n ≡ Refused no_room
+      unfolding extend_from
+      extend_full h = simp (lt-leb _ _ above, le-ltb _ _ follows, lt-ltb _ _ h)
+
+      pub extend_persisted : first + n - 1 + 1 - min l.offset.0 first ≤ room pending → first ≤ l.persisted.0
+          → extend_from l pending first n ≡ Refused out_of_range
+      unfolding extend_from
+      extend_persisted r h = simp (lt-leb _ _ above, le-ltb _ _ follows, le-ltb _ _ r, le-leb _ _ h)
+
+      pub extend_last : {offset count : ℕ}
+          → offset ≡ min l.offset.0 first → count ≡ first + n - 1 + 1 - min l.offset.0 first → count ≤ room pending
+          → l.persisted.0 < first
+          → extend_from l pending first n ≡ Last (index_of (first + n - 1)) (with_pending l offset count l.persisted.0)
+      unfolding extend_from
+      extend_last o e r h = simp (lt-leb _ _ above, le-ltb _ _ follows, le-ltb _ _ (rw e at r), lt-leb _ _ h, o, e)
 
 -- ---- the whole table
 

@@ -5,6 +5,7 @@ pub mod Runs
 pub mod Conflicts
 pub mod Appending
 pub mod Extending
+pub mod Looks
 pub mod Commits
 pub mod Downwards
 pub mod Slices

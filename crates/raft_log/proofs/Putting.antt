@@ -1,5 +1,5 @@
 -- What the loop keeps that puts a run's records into a store one by one.
-use mathlib.Core.Path.{◌≡◌, sym, ap, ◌∙◌}
+use mathlib.Core.Path.{◌≡◌, refl, sym, ap, ◌∙◌}
 use mathlib.Core.List.{List}
 use Prim.Native.Nat.{ℕ, suc, ◌+◌, ◌*◌, ◌-◌, ◌≤◌, ◌<◌}
 use native.Mathlib.Omega.{arith}
@@ -12,6 +12,13 @@ pub record Putting (store₀ store : List ℕ) (at : ℕ) (run : List ℕ) (k n 
   pub within : i ≤ n
   pub same : put_run store₀ at run k n ≡ put_run store (at + i) run (k + i) (n - i)
   pub long : length store ≡ length store₀
+
+pub put_start : (store : List ℕ) (at : ℕ) (run : List ℕ) (k n : ℕ) → Putting store store at run k n 0
+put_start store at run k n =
+    let a : at + 0 ≡ at = omega arith in
+    let b : k + 0 ≡ k = omega arith in
+    let e : n - 0 ≡ n = omega arith in
+    record { within = omega arith; same = cc; long = refl }
 
 module _ {store₀ store : List ℕ} {at : ℕ} {run : List ℕ} {k n i : ℕ} (m : Putting store₀ store at run k n i) where
   pub put_next : {next : List ℕ} → i < n → next ≡ put_record store (at + i) (record_of run (k + i)) → Putting store₀ next at run k n (i + 1)

@@ -1,19 +1,21 @@
--- The laws of specs/Settle.antt: what an answer of `stable_entries` that is no refusal tells, and the settled store after each answer.
+-- The laws of specs/Settle.antt: one for each answer of `stable_entries`, what an answer that is no refusal tells, and the settled store after each.
 use mathlib.Core.Path.{◌≡◌, sym, ap, ◌∙◌}
-use mathlib.Core.Bool.{not}
+use mathlib.Core.Bool.{true, false, not, and-eq-true_iff}
 use mathlib.Core.List.{List, ◌++◌}
-use Prim.Native.Nat.{ℕ, ◌+◌, ◌-◌, ◌*◌, ◌≤◌}
+use Prim.Native.Nat.{ℕ, ◌+◌, ◌-◌, ◌*◌, ◌≤◌, ◌<◌}
 use native.Mathlib.Omega.{arith}
 use lib.ListN.{length, take, drop}
 use lib.Seq.{sets, sets-eq, paste, length-take-le}
-use borrow.Author.Tests.{ltb-false}
+use borrow.Author.Tests.{eq-eqb, ne_eqb, lt-ltb, le-ltb, eqb-true, eqb-false, ltb-false, not-true}
+use Rattle.units.specs.Refusals.{no_room, not_pending}
 use Rattle.raft_log.specs.declared.Log.{Log}
 use Rattle.raft_log.specs.declared.Changed.{Changed}
 use Rattle.raft_log.specs.declared.Changed.TheVariants.{Now, Refused}
 use Rattle.raft_log.specs.Words.{room, record_words}
 use Rattle.raft_log.specs.State.{Good, settled_count, broken, term_at, last_of}
+use Rattle.raft_log.specs.Append.{with_pending}
 use Rattle.raft_log.specs.Settle.{is_last, settled_overfull, settled_log, stable_entries, stable_entries_store}
-use Rattle.raft_log.proofs.States.{whole_good}
+use Rattle.raft_log.proofs.States.{refuted, whole_good}
 use Rattle.units.proofs.Cond.{past}
 use Rattle.units.proofs.Never.{never}
 
@@ -23,6 +25,29 @@ module _ (l : Log) (settled pending : List ℕ) (i t : ℕ) where
     pub some : l.count ≡ 0 → ⊥
     pub there : i ≡ last_of l
     pub same : term_at l settled pending i ≡ t
+
+  last_test : IsLast → is_last l settled pending i t ≡ true
+  last_test h = simp (ne_eqb _ _ h.some, eq-eqb _ _ h.there, eq-eqb _ _ h.same)
+
+  test_last : is_last l settled pending i t ≡ true → IsLast
+  test_last h =
+      let a = (and-eq-true_iff _ _).0 h in
+      let b = (and-eq-true_iff _ _).0 a.0 in
+      record { some = eqb-false _ _ (not-true _ b.0); there = eqb-true _ _ b.1; same = eqb-true _ _ a.1 }
+
+  module _ (h : broken l settled pending ≡ false) where
+    pub settle_full : room settled < last_of l - l.start.0 → stable_entries l settled pending i t ≡ Refused no_room
+    unfolding stable_entries
+    settle_full r = simp (h, lt-ltb _ _ r)
+
+    pub settle_other : last_of l - l.start.0 ≤ room settled → (IsLast → ⊥) → stable_entries l settled pending i t ≡ Refused not_pending
+    unfolding stable_entries
+    settle_other r f = simp (h, le-ltb _ _ r, refuted (is_last l settled pending i t) (λ e. f (test_last e)))
+
+    pub settle_done : (last : ℕ) → last ≡ last_of l → last_of l - l.start.0 ≤ room settled → IsLast
+        → stable_entries l settled pending i t ≡ Now (with_pending l (last + 1) 0 l.persisted.0)
+    unfolding stable_entries
+    settle_done last e r g = simp (e, h, le-ltb _ _ r, last_test g)
 
 -- the first n words of one store, stored into another that has room for them
 sets_paste : (to : List ℕ) (at : ℕ) (from : List ℕ) (n : ℕ) → at + n ≤ length to → n ≤ length from → sets to at (take n from) ≡ paste to at from n
