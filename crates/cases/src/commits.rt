@@ -6,45 +6,64 @@ use leader::commit_found;
 use peer_tables::joint::committed_index;
 use quorum::joint::JointConfig;
 use raft_log::{Decided, Log};
+use std::io;
 use units::Term;
 
-fn decided(answer: Decided) {
+fn decided(rt: &impl Print, answer: Decided) -> io::Result<()> {
     match answer {
         Decided::Yes(log) => {
-            number(b"yes, committed ", log.committed.0);
-            text(b"\n");
+            number(rt, "yes, committed ", log.committed.0)?;
+            text(rt, "\n")
         }
-        Decided::No => text(b"no\n"),
-        Decided::Refused(n) => refusal(n),
+        Decided::No => text(rt, "no\n"),
+        Decided::Refused(n) => refusal(rt, n),
     }
 }
 
 // Three voters with these acknowledgements.
-fn leader_case(term: u64, acks: &[u64]) {
+fn leader_case(rt: &impl Print, term: u64, acks: &[u64]) -> io::Result<()> {
     let config = JointConfig::new(voters(&[1, 2, 3]));
     let found = committed_index(config, acking(acks));
-    decided(commit_found(log_a(), &settled_a(), &pending_a(), Term(term), found));
+    decided(
+        rt,
+        commit_found(log_a(), &settled_a(), &pending_a(), Term(term), found),
+    )
 }
 
 // A half of the configuration is broken.
-fn broken_case(log: Log) {
+fn broken_case(rt: &impl Print, log: Log) -> io::Result<()> {
     let found = committed_index(half_broken(), acking(&[1]));
-    decided(commit_found(log, &settled_a(), &[], Term(3), found));
+    decided(rt, commit_found(log, &settled_a(), &[], Term(3), found))
 }
 
-pub fn leader_cases() {
-    text(b"   from A, leader of term 2, three voters acknowledged 5,4,3: ");
-    leader_case(2, &[5, 4, 3]);
-    text(b"   from A, leader of term 3, three voters acknowledged 5,4,3: ");
-    leader_case(3, &[5, 4, 3]);
-    text(b"   from A, leader of term 3, three voters acknowledged 5,5,3: ");
-    leader_case(3, &[5, 5, 3]);
-    text(b"   from A, leader of term 1, three voters acknowledged 5,2,2: ");
-    leader_case(1, &[5, 2, 2]);
-    text(b"   from A, leader of term 0, three voters acknowledged 9,9,9: ");
-    leader_case(0, &[9, 9, 9]);
-    text(b"   a broken half: ");
-    broken_case(later());
-    text(b"   a broken half and a broken log: ");
-    broken_case(log_a());
+pub fn leader_cases(rt: &impl Print) -> io::Result<()> {
+    text(
+        rt,
+        "   from A, leader of term 2, three voters acknowledged 5,4,3: ",
+    )?;
+    leader_case(rt, 2, &[5, 4, 3])?;
+    text(
+        rt,
+        "   from A, leader of term 3, three voters acknowledged 5,4,3: ",
+    )?;
+    leader_case(rt, 3, &[5, 4, 3])?;
+    text(
+        rt,
+        "   from A, leader of term 3, three voters acknowledged 5,5,3: ",
+    )?;
+    leader_case(rt, 3, &[5, 5, 3])?;
+    text(
+        rt,
+        "   from A, leader of term 1, three voters acknowledged 5,2,2: ",
+    )?;
+    leader_case(rt, 1, &[5, 2, 2])?;
+    text(
+        rt,
+        "   from A, leader of term 0, three voters acknowledged 9,9,9: ",
+    )?;
+    leader_case(rt, 0, &[9, 9, 9])?;
+    text(rt, "   a broken half: ")?;
+    broken_case(rt, later())?;
+    text(rt, "   a broken half and a broken log: ")?;
+    broken_case(rt, log_a())
 }

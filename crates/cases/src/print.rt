@@ -1,34 +1,32 @@
 // A line of standard output, piece by piece.
-use libc::STDOUT_FILENO;
+use std::io;
 
-pub fn text(bytes: &[u8]) {
-    io::write_all(STDOUT_FILENO, bytes);
+pub fn text(rt: &impl Print, words: &str) -> io::Result<()> {
+    rt.print(words)
 }
 
 // A number, and what stands before it.
-pub fn number(before: &[u8], n: u64) {
-    text(before);
-    io::print_decimal(STDOUT_FILENO, n);
+pub fn number(rt: &impl Print, before: &str, n: u64) -> io::Result<()> {
+    print!(rt; "{before}{n}")
 }
 
 // One number of a list, at its place in it.
-pub fn item(place: usize, n: u64) {
+pub fn item(rt: &impl Print, place: usize, n: u64) -> io::Result<()> {
     if 0 < place {
-        text(b",");
+        text(rt, ",")?;
     }
-    number(b"", n);
+    number(rt, "", n)
 }
 
-pub fn numbers(list: &[u64]) {
-    let mut i = 0;
-    while i < list.len() {
-        item(i, list[i]);
-        i += 1;
+pub fn numbers(rt: &impl Print, list: &[u64]) -> io::Result<()> {
+    for (place, n) in list.iter().enumerate() {
+        item(rt, place, *n)?;
     }
+    Ok(())
 }
 
 // A refusal is the whole answer, so it ends the line.
-pub fn refusal(n: u64) {
-    number(b"refusal ", n);
-    text(b"\n");
+pub fn refusal(rt: &impl Print, n: u64) -> io::Result<()> {
+    number(rt, "refusal ", n)?;
+    text(rt, "\n")
 }

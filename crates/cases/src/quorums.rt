@@ -5,42 +5,43 @@ use quorum::joint::{Ids, JointConfig};
 use quorum::majority::Voters;
 use quorum::rows::{Ack, Peer, Question, Rows, Vote};
 use quorum::{Committed, Verdict, VoteResult};
+use std::io;
 use units::{Check, Index, YesOrNo};
 
-fn committed(answer: Committed) {
+fn committed(rt: &impl Print, answer: Committed) -> io::Result<()> {
     match answer {
         Committed::At(index, free) => {
-            number(b"", index.0);
+            number(rt, "", index.0)?;
             if free {
-                text(b" (nobody to ask)");
+                text(rt, " (nobody to ask)")?;
             }
-            text(b"\n");
+            text(rt, "\n")
         }
-        Committed::Refused(n) => refusal(n),
+        Committed::Refused(n) => refusal(rt, n),
     }
 }
 
-fn verdict(answer: Verdict) {
+fn verdict(rt: &impl Print, answer: Verdict) -> io::Result<()> {
     match answer {
         Verdict::Stands(result) => match result {
-            VoteResult::Pending => text(b"Pending\n"),
-            VoteResult::Lost => text(b"Lost\n"),
-            VoteResult::Won => text(b"Won\n"),
+            VoteResult::Pending => text(rt, "Pending\n"),
+            VoteResult::Lost => text(rt, "Lost\n"),
+            VoteResult::Won => text(rt, "Won\n"),
         },
-        Verdict::Refused(n) => refusal(n),
+        Verdict::Refused(n) => refusal(rt, n),
     }
 }
 
-fn told(answer: YesOrNo) {
+fn told(rt: &impl Print, answer: YesOrNo) -> io::Result<()> {
     match answer {
         YesOrNo::Is(b) => {
             if b {
-                text(b"yes\n");
+                text(rt, "yes\n")
             } else {
-                text(b"no\n");
+                text(rt, "no\n")
             }
         }
-        YesOrNo::Refused(n) => refusal(n),
+        YesOrNo::Refused(n) => refusal(rt, n),
     }
 }
 
@@ -52,19 +53,17 @@ fn first(list: &[u64], count: usize) -> &[u64] {
     list
 }
 
-fn ids(list: Ids) {
+fn ids(rt: &impl Print, list: Ids) -> io::Result<()> {
     let check = list.check;
     let Check::Fine = check else {
-        refusal(check.refusal());
-        return;
+        return refusal(rt, check.refusal());
     };
     if list.count == 0 {
-        text(b"none\n");
-        return;
+        return text(rt, "none\n");
     }
     let words = list.ids;
-    numbers(first(&words, list.count));
-    text(b"\n");
+    numbers(rt, first(&words, list.count))?;
+    text(rt, "\n")
 }
 
 // A vote as a number.
@@ -125,59 +124,92 @@ fn both(incoming: &[u64], outgoing: &[u64]) -> JointConfig {
     }
 }
 
-pub fn index_cases() {
-    text(b"P  acknowledgements 2,2,2,4,5 give ");
-    committed(majority::committed_index(voters(&[1, 2, 3, 4, 5]), acking(&[2, 2, 2, 4, 5])));
-    text(b"P  acknowledgements 9,7,7,3 give ");
-    committed(majority::committed_index(voters(&[1, 2, 3, 4]), acking(&[9, 7, 7, 3])));
-    text(b"P  one 5 and two missing give ");
-    committed(majority::committed_index(voters(&[1, 2, 3]), acking(&[5])));
+pub fn index_cases(rt: &impl Print) -> io::Result<()> {
+    text(rt, "P  acknowledgements 2,2,2,4,5 give ")?;
+    committed(
+        rt,
+        majority::committed_index(voters(&[1, 2, 3, 4, 5]), acking(&[2, 2, 2, 4, 5])),
+    )?;
+    text(rt, "P  acknowledgements 9,7,7,3 give ")?;
+    committed(
+        rt,
+        majority::committed_index(voters(&[1, 2, 3, 4]), acking(&[9, 7, 7, 3])),
+    )?;
+    text(rt, "P  one 5 and two missing give ")?;
+    committed(
+        rt,
+        majority::committed_index(voters(&[1, 2, 3]), acking(&[5])),
+    )
 }
 
-pub fn joint_cases() {
-    text(b"P  incoming 5,4,3 gives ");
-    committed(majority::committed_index(voters(&[1, 2, 3]), acking(&[5, 4, 3, 3, 8])));
-    text(b"P  outgoing 3,8 gives ");
-    committed(majority::committed_index(voters(&[4, 5]), acking(&[5, 4, 3, 3, 8])));
-    text(b"P  incoming 5,4,3, outgoing 3,8: joint ");
-    committed(joint::committed_index(both(&[1, 2, 3], &[4, 5]), acking(&[5, 4, 3, 3, 8])));
+pub fn joint_cases(rt: &impl Print) -> io::Result<()> {
+    text(rt, "P  incoming 5,4,3 gives ")?;
+    committed(
+        rt,
+        majority::committed_index(voters(&[1, 2, 3]), acking(&[5, 4, 3, 3, 8])),
+    )?;
+    text(rt, "P  outgoing 3,8 gives ")?;
+    committed(
+        rt,
+        majority::committed_index(voters(&[4, 5]), acking(&[5, 4, 3, 3, 8])),
+    )?;
+    text(rt, "P  incoming 5,4,3, outgoing 3,8: joint ")?;
+    committed(
+        rt,
+        joint::committed_index(both(&[1, 2, 3], &[4, 5]), acking(&[5, 4, 3, 3, 8])),
+    )
 }
 
-pub fn vote_cases() {
-    text(b"P  four voters, two yes, one no: ");
-    verdict(majority::vote_result(voters(&[1, 2, 3, 4]), voting(&[YES, YES, NO])));
-    text(b"P  four voters, two yes, two no: ");
-    verdict(majority::vote_result(voters(&[1, 2, 3, 4]), voting(&[YES, YES, NO, NO])));
+pub fn vote_cases(rt: &impl Print) -> io::Result<()> {
+    text(rt, "P  four voters, two yes, one no: ")?;
+    verdict(
+        rt,
+        majority::vote_result(voters(&[1, 2, 3, 4]), voting(&[YES, YES, NO])),
+    )?;
+    text(rt, "P  four voters, two yes, two no: ")?;
+    verdict(
+        rt,
+        majority::vote_result(voters(&[1, 2, 3, 4]), voting(&[YES, YES, NO, NO])),
+    )
 }
 
-fn answer_cases() {
-    text(b"   acknowledged by no voters: ");
-    committed(majority::committed_index(Voters::empty(), acking(&[5])));
-    text(b"   four voters, three yes: ");
-    verdict(majority::vote_result(voters(&[1, 2, 3, 4]), voting(&[YES, YES, YES])));
-    text(b"   votes of no voters: ");
-    verdict(majority::vote_result(Voters::empty(), voting(&[NO])));
-    text(b"   joint of two empty halves: ");
-    committed(joint::committed_index(both(&[], &[]), acking(&[])));
-    text(b"   won in one half, pending in the other: ");
-    verdict(joint::vote_result(both(&[1], &[2, 3]), voting(&[YES, YES])));
-    text(b"   won in one half, lost in the other: ");
-    verdict(joint::vote_result(both(&[1], &[2, 3]), voting(&[YES, NO])));
+fn answer_cases(rt: &impl Print) -> io::Result<()> {
+    text(rt, "   acknowledged by no voters: ")?;
+    committed(rt, majority::committed_index(Voters::empty(), acking(&[5])))?;
+    text(rt, "   four voters, three yes: ")?;
+    verdict(
+        rt,
+        majority::vote_result(voters(&[1, 2, 3, 4]), voting(&[YES, YES, YES])),
+    )?;
+    text(rt, "   votes of no voters: ")?;
+    verdict(rt, majority::vote_result(Voters::empty(), voting(&[NO])))?;
+    text(rt, "   joint of two empty halves: ")?;
+    committed(rt, joint::committed_index(both(&[], &[]), acking(&[])))?;
+    text(rt, "   won in one half, pending in the other: ")?;
+    verdict(
+        rt,
+        joint::vote_result(both(&[1], &[2, 3]), voting(&[YES, YES])),
+    )?;
+    text(rt, "   won in one half, lost in the other: ")?;
+    verdict(
+        rt,
+        joint::vote_result(both(&[1], &[2, 3]), voting(&[YES, NO])),
+    )
 }
 
-fn set_cases() {
-    text(b"   the ids of 3,1 and 2,1: ");
-    ids(both(&[3, 1], &[2, 1]).ids());
-    text(b"   2 is one of them: ");
-    told(both(&[3, 1], &[2, 1]).contains(2));
-    text(b"   4 is one of them: ");
-    told(both(&[3, 1], &[2, 1]).contains(4));
-    text(b"   one voter alone is a singleton: ");
-    told(both(&[3], &[]).is_singleton());
-    text(b"   one voter in each half is one: ");
-    told(both(&[3], &[3]).is_singleton());
-    text(b"   the ids of a cleared configuration: ");
-    ids(both(&[3, 1], &[2]).clear().ids());
+fn set_cases(rt: &impl Print) -> io::Result<()> {
+    text(rt, "   the ids of 3,1 and 2,1: ")?;
+    ids(rt, both(&[3, 1], &[2, 1]).ids())?;
+    text(rt, "   2 is one of them: ")?;
+    told(rt, both(&[3, 1], &[2, 1]).contains(2))?;
+    text(rt, "   4 is one of them: ")?;
+    told(rt, both(&[3, 1], &[2, 1]).contains(4))?;
+    text(rt, "   one voter alone is a singleton: ")?;
+    told(rt, both(&[3], &[]).is_singleton())?;
+    text(rt, "   one voter in each half is one: ")?;
+    told(rt, both(&[3], &[3]).is_singleton())?;
+    text(rt, "   the ids of a cleared configuration: ")?;
+    ids(rt, both(&[3, 1], &[2]).clear().ids())
 }
 
 // A repeated id in the outgoing half.
@@ -198,33 +230,42 @@ fn repeated_row() -> Table {
     Table::empty().with(row).with(row)
 }
 
-fn constructed(ids: &[u64]) {
+fn constructed(rt: &impl Print, ids: &[u64]) -> io::Result<()> {
     let made = Voters::new(ids);
     let check = made.check;
-    refusal(check.refusal());
+    refusal(rt, check.refusal())
 }
 
-fn refusal_cases() {
-    text(b"   a constructor handed an id too many: ");
-    constructed(&[0; Voters::LIMIT + 1]);
-    text(b"   a constructor handed an id twice: ");
-    constructed(&[1, 1]);
-    text(b"   a voter too many: ");
-    committed(majority::committed_index(Voters::holding(&[0; Voters::LIMIT + 1]), acking(&[1])));
-    text(b"   a repeated voter: ");
-    verdict(majority::vote_result(Voters::holding(&[1, 1]), voting(&[YES])));
-    text(b"   a repeated voter in the outgoing half: ");
-    committed(joint::committed_index(half_broken(), acking(&[1])));
-    text(b"   no voters, a row too many: ");
-    committed(majority::committed_index(Voters::empty(), acking(&[0; Rows::LIMIT + 1])));
-    text(b"   a repeated row of no voter: ");
-    committed(majority::committed_index(voters(&[1]), repeated_row()));
-    text(b"   the ids of a broken half: ");
-    ids(half_broken().ids());
+fn refusal_cases(rt: &impl Print) -> io::Result<()> {
+    text(rt, "   a constructor handed an id too many: ")?;
+    constructed(rt, &[0; Voters::LIMIT + 1])?;
+    text(rt, "   a constructor handed an id twice: ")?;
+    constructed(rt, &[1, 1])?;
+    text(rt, "   a voter too many: ")?;
+    committed(
+        rt,
+        majority::committed_index(Voters::holding(&[0; Voters::LIMIT + 1]), acking(&[1])),
+    )?;
+    text(rt, "   a repeated voter: ")?;
+    verdict(
+        rt,
+        majority::vote_result(Voters::holding(&[1, 1]), voting(&[YES])),
+    )?;
+    text(rt, "   a repeated voter in the outgoing half: ")?;
+    committed(rt, joint::committed_index(half_broken(), acking(&[1])))?;
+    text(rt, "   no voters, a row too many: ")?;
+    committed(
+        rt,
+        majority::committed_index(Voters::empty(), acking(&[0; Rows::LIMIT + 1])),
+    )?;
+    text(rt, "   a repeated row of no voter: ")?;
+    committed(rt, majority::committed_index(voters(&[1]), repeated_row()))?;
+    text(rt, "   the ids of a broken half: ")?;
+    ids(rt, half_broken().ids())
 }
 
-pub fn further_cases() {
-    answer_cases();
-    set_cases();
-    refusal_cases();
+pub fn further_cases(rt: &impl Print) -> io::Result<()> {
+    answer_cases(rt)?;
+    set_cases(rt)?;
+    refusal_cases(rt)
 }
