@@ -1,15 +1,9 @@
 pub mod IdLaws
 pub mod Checks
 pub mod Padded
-pub mod Front
-pub mod Sizes
 pub mod Rest
 pub mod Sinking
 pub mod Sorting
 pub mod Listing
-pub mod Values
 pub mod Answers
 pub mod Gathered
-pub mod Words
-pub mod OverRows
-pub mod Thin

@@ -1,6 +1,5 @@
 -- Peer rows. A reader must know: a quorum question reads the rows through `row_of`, the row of a voter by its id; a voter without a row is missing everywhere.
 use Rattle.std.specs.Prelude.{ℕ, List, map, length, get_or, take}
-use Rattle.units.specs.declared.Index.{Index}
 use Rattle.units.specs.declared.Check.{Check}
 use Rattle.quorum.specs.Limits.{row_limit}
 use Rattle.quorum.specs.Ids.{position, few_distinct, fine_if, padded}

@@ -4,13 +4,13 @@ ghost use Rattle.units.specs.Units.{word_max};
 ghost use Rattle.rules.specs.Count.{count, one_more_if};
 ghost use Rattle.rules.specs.Majority.{falling};
 ghost use Rattle.quorum.specs.Votes.{tally as tally_of, joint_result};
-ghost use Rattle.quorum.specs.Half.{half_index, joined as joinedOf, numbers_result};
+ghost use Rattle.quorum.specs.Half.{half_index, joined as joined_of, numbers_result};
 
 use crate::VoteResult;
 use units::smaller;
 
 // A committed index, and whether no voter had a say in it.
-#[derive(Drop)]
+#[derive(Clone, Copy)]
 pub struct Half {
     pub index: u64,
     pub free: bool,
@@ -42,7 +42,7 @@ fn both(a: bool, b: bool) -> bool
 
 // The smaller index; free only where both are.
 pub fn joined(incoming: Half, outgoing: Half) -> Half
-    ensures { result ≡ joinedOf incoming outgoing }
+    ensures { result ≡ joined_of incoming outgoing }
 {
     Half {
         index: smaller(incoming.index, outgoing.index),

@@ -1,6 +1,6 @@
 // Lists of ids: where one stands, and that none stands twice.
 ghost use Rattle.std.specs.Prelude.{◌≡◌};
-ghost use Rattle.quorum.specs.Ids.{position as position_of, distinct as distinctOf, check_of};
+ghost use Rattle.quorum.specs.Ids.{position as position_of, distinct as distinct_of, check_of};
 
 use units::Check;
 use units::refusal::BROKEN_SET;
@@ -21,7 +21,7 @@ pub fn position(ids: &[u64], id: u64) -> usize
 
 // Whether no id stands twice.
 pub fn distinct(ids: &[u64]) -> bool
-    ensures { result ≡ distinctOf ids.now }
+    ensures { result ≡ distinct_of ids.now }
 {
     let mut i = 0;
     while i < ids.len() {

@@ -1,3 +1,4 @@
+#![tactic(auto)]
 // Majority and joint quorums (quorum.rs of the crate): how far a set of voters has acknowledged, and how its vote stands.
 // Ported from raft 0.7.0, Copyright 2020 TiKV Project Authors, Apache-2.0 (see NOTICE).
 pub mod half;
@@ -9,7 +10,7 @@ pub mod rows;
 mod sort;
 
 // The outcome of a vote.
-#[derive(Drop)]
+#[derive(Clone, Copy)]
 pub enum VoteResult {
     // Neither yes nor no has a quorum: the missing votes decide.
     Pending,
@@ -22,14 +23,14 @@ pub enum VoteResult {
 use units::Index;
 
 // The answer to "how far is it committed": an index, with whether no voter had a say in it; or a refusal.
-#[derive(Drop)]
+#[derive(Clone, Copy)]
 pub enum Committed {
     At(Index, bool),
     Refused(u64),
 }
 
 // The answer to "how does the vote stand".
-#[derive(Drop)]
+#[derive(Clone, Copy)]
 pub enum Verdict {
     Stands(VoteResult),
     Refused(u64),

@@ -1,7 +1,7 @@
 // What each voter said by the gathered rows, whose ids and values are `ids` and `values`, and the questions over it.
 ghost use Rattle.std.specs.Prelude.{◌≡◌, map, ◌≤◌};
 ghost use Rattle.quorum.specs.Limits.{voter_limit};
-ghost use Rattle.quorum.specs.Ids.{padded, has as hasId};
+ghost use Rattle.quorum.specs.Ids.{padded, has as has_id};
 ghost use Rattle.quorum.specs.Voters.{voters_of};
 ghost use Rattle.quorum.specs.Half.{half_index, value_in, numbers_result};
 
@@ -12,7 +12,7 @@ use crate::majority::Voters;
 // Whether `id` is one of the voters.
 pub fn has(voters: Voters, id: u64) -> bool
     requires { voters.count ≤ voter_limit }
-    ensures { result ≡ hasId id (voters_of voters) }
+    ensures { result ≡ has_id id (voters_of voters) }
 {
     let ids = voters.ids;
     let count = voters.count;

@@ -10,14 +10,14 @@ use units::words::copy_at;
 use units::{Check, Index};
 
 // The voters: the first `count` ids, each once.
-#[derive(Drop)]
+#[derive(Clone, Copy)]
 pub struct Voters {
     pub ids: [u64; Voters::LIMIT],
     pub count: usize,
 }
 
 // What the constructor gives: the set, or a refusal beside the empty set.
-#[derive(Drop)]
+#[derive(Clone, Copy)]
 pub struct Made {
     pub check: Check,
     pub set: Voters,
@@ -83,6 +83,7 @@ pub fn ids_checked(ids: &[u64]) -> Check
 }
 
 // How far a majority has acknowledged, over gathered rows: the core of `committed_index`.
+#[tactic(auto, unfolding(crate::specs::Majority::plain_committed_index))]
 pub fn committed_index_of(voters: Voters, rows: Rows) -> Committed
     ensures { result ≡ plain_committed_index voters rows }
 {
@@ -98,6 +99,7 @@ pub fn committed_index_of(voters: Voters, rows: Rows) -> Committed
 }
 
 // How the vote stands, over gathered rows: the core of `vote_result`.
+#[tactic(auto, unfolding(crate::specs::Majority::plain_vote_result))]
 pub fn vote_result_of(voters: Voters, rows: Rows) -> Verdict
     ensures { result ≡ plain_vote_result voters rows }
 {
@@ -113,6 +115,7 @@ pub fn vote_result_of(voters: Voters, rows: Rows) -> Verdict
 }
 
 // How far a majority has acknowledged, by the lent rows.
+#[tactic(auto, using(crate::proofs::Gathered::gathered_index))]
 pub fn committed_index(voters: Voters, peers: &[Peer]) -> Committed
     ensures { result ≡ committed_index voters peers.now }
 {
@@ -120,6 +123,7 @@ pub fn committed_index(voters: Voters, peers: &[Peer]) -> Committed
 }
 
 // How the vote stands, by the lent rows.
+#[tactic(auto, using(crate::proofs::Gathered::gathered_result))]
 pub fn vote_result(voters: Voters, peers: &[Peer]) -> Verdict
     ensures { result ≡ vote_result voters peers.now }
 {

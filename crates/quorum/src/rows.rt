@@ -6,21 +6,21 @@ use units::words::shorter;
 use units::{Check, Index};
 
 // What a peer has acknowledged.
-#[derive(Drop)]
+#[derive(Clone, Copy)]
 pub enum Ack {
     Missing,
     At(Index),
 }
 
 // How a peer has voted.
-#[derive(Drop)]
+#[derive(Clone, Copy)]
 pub enum Vote {
     Missing,
     Yes,
     No,
 }
 
-#[derive(Drop)]
+#[derive(Clone, Copy)]
 pub struct Peer {
     pub id: u64,
     pub ack: Ack,
@@ -28,14 +28,14 @@ pub struct Peer {
 }
 
 // Which of its columns a question reads.
-#[derive(Drop)]
+#[derive(Clone, Copy)]
 pub enum Question {
     Index,
     Vote,
 }
 
 // The rows as plain numbers: the ids, and beside each what the question reads of its row.
-#[derive(Drop)]
+#[derive(Clone, Copy)]
 pub struct Rows {
     pub ids: [u64; Rows::LIMIT],
     pub values: [u64; Rows::LIMIT],
