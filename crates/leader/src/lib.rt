@@ -1,3 +1,4 @@
+#![tactic(auto)]
 // The leader's commit step (raft.rs, `maybe_commit`): how far a majority of both halves has acknowledged, asked of the quorum crate, and offered to the log with the leader's term.
 // The log part sees the quorum part only through its promises: here the two meet.
 ghost use Rattle.std.specs.Prelude.{◌≡◌};
@@ -10,6 +11,7 @@ use raft_log::{Decided, Log, Placed};
 use units::Term;
 
 // Commits what a majority of every nonempty half has acknowledged, where its record is of the leader's own term.
+#[tactic(auto, unfolding(crate::specs::Leader::leader_commit))]
 pub fn maybe_commit(
     log: Log,
     settled: &[u64],
@@ -24,6 +26,7 @@ pub fn maybe_commit(
 }
 
 // The same for an index already found, or a refusal in its place: the log's own refusal comes first.
+#[tactic(auto, unfolding(raft_log::specs::Look::last_index))]
 pub fn commit_found(
     log: Log,
     settled: &[u64],

@@ -1,3 +1,4 @@
+#![tactic(auto)]
 // Peer rows by value, for callers that hold them in an array. The quorum questions read lent rows, and whoever lends a slice of structs is proved by a walk by hand: it is done once, in `lend`, and the callers of this crate need none.
 pub mod joint;
 mod lend;
@@ -9,7 +10,7 @@ ghost use Rattle.peer_tables.specs.Table.{no_rows, with_row};
 use quorum::rows::{Ack, Peer, Rows, Vote};
 
 // The rows: the first `count`. A count over the limit says only that there were too many.
-#[derive(Drop)]
+#[derive(Clone, Copy)]
 pub struct Table {
     pub peers: [Peer; Rows::LIMIT],
     pub count: usize,
