@@ -8,6 +8,7 @@ use units::refusal::BROKEN_STATE;
 use units::{Index, Term};
 
 // AppendEntries at the receiver. Values: conflict, last.
+#[tactic(auto, unfolding(crate::specs::Words::unless_short))]
 pub fn log_maybe_append(
     log: &mut [u64],
     settled: &[u64],

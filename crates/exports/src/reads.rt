@@ -11,13 +11,8 @@ use units::refusal::BROKEN_STATE;
 use units::{Index, Term};
 
 // The term at an index, 0 outside the log.
-pub fn log_term(
-    log: &[u64],
-    settled: &[u64],
-    pending: &[u64],
-    i: u64,
-    answer: &mut [u64],
-) -> u64
+#[tactic(auto, unfolding(crate::specs::Words::unless_short))]
+pub fn log_term(log: &[u64], settled: &[u64], pending: &[u64], i: u64, answer: &mut [u64]) -> u64
     ensures { leaves result (answer.new ∷ []) ≡ term_leaves log.now settled.now pending.now i answer.old }
 {
     if log.len() < LOG {
@@ -31,12 +26,8 @@ pub fn log_term(
     write_looked(answer, said)
 }
 
-pub fn log_first_index(
-    log: &[u64],
-    settled: &[u64],
-    pending: &[u64],
-    answer: &mut [u64],
-) -> u64
+#[tactic(auto, unfolding(crate::specs::Words::unless_short))]
+pub fn log_first_index(log: &[u64], settled: &[u64], pending: &[u64], answer: &mut [u64]) -> u64
     ensures { leaves result (answer.new ∷ []) ≡ first_index_leaves log.now settled.now pending.now answer.old }
 {
     if log.len() < LOG {
@@ -50,12 +41,8 @@ pub fn log_first_index(
     write_placed(answer, said)
 }
 
-pub fn log_last_index(
-    log: &[u64],
-    settled: &[u64],
-    pending: &[u64],
-    answer: &mut [u64],
-) -> u64
+#[tactic(auto, unfolding(crate::specs::Words::unless_short))]
+pub fn log_last_index(log: &[u64], settled: &[u64], pending: &[u64], answer: &mut [u64]) -> u64
     ensures { leaves result (answer.new ∷ []) ≡ last_index_leaves log.now settled.now pending.now answer.old }
 {
     if log.len() < LOG {
@@ -69,12 +56,8 @@ pub fn log_last_index(
     write_placed(answer, said)
 }
 
-pub fn log_last_term(
-    log: &[u64],
-    settled: &[u64],
-    pending: &[u64],
-    answer: &mut [u64],
-) -> u64
+#[tactic(auto, unfolding(crate::specs::Words::unless_short))]
+pub fn log_last_term(log: &[u64], settled: &[u64], pending: &[u64], answer: &mut [u64]) -> u64
     ensures { leaves result (answer.new ∷ []) ≡ last_term_leaves log.now settled.now pending.now answer.old }
 {
     if log.len() < LOG {
@@ -89,12 +72,8 @@ pub fn log_last_term(
 }
 
 // Values: committed, its term.
-pub fn log_commit_info(
-    log: &[u64],
-    settled: &[u64],
-    pending: &[u64],
-    answer: &mut [u64],
-) -> u64
+#[tactic(auto, unfolding(crate::specs::Words::unless_short))]
+pub fn log_commit_info(log: &[u64], settled: &[u64], pending: &[u64], answer: &mut [u64]) -> u64
     ensures { leaves result (answer.new ∷ []) ≡ commit_info_leaves log.now settled.now pending.now answer.old }
 {
     if log.len() < LOG {
@@ -109,6 +88,7 @@ pub fn log_commit_info(
 }
 
 // Whether a log that ends with (i, t) is at least as up to date as this one.
+#[tactic(auto, unfolding(crate::specs::Words::unless_short))]
 pub fn log_is_up_to_date(
     log: &[u64],
     settled: &[u64],
@@ -131,6 +111,7 @@ pub fn log_is_up_to_date(
 }
 
 // The largest index at most i whose term is at most t. Values: the index, 1 if a term goes with it, the term.
+#[tactic(auto, unfolding(crate::specs::Words::unless_short))]
 pub fn log_find_conflict_by_term(
     log: &[u64],
     settled: &[u64],
@@ -153,6 +134,7 @@ pub fn log_find_conflict_by_term(
 }
 
 // The records from low up to high, as far as one store holds them. Values: where (0: empty, 1: settled, 2: pending), first index, index after the last, first word in that store, how many words.
+#[tactic(auto, using(crate::proofs::Parts::slice_sound), unfolding(crate::specs::Words::unless_short))]
 pub fn log_slice(
     log: &[u64],
     settled: &[u64],
@@ -175,13 +157,8 @@ pub fn log_slice(
 }
 
 // All records from i on, by the same values.
-pub fn log_entries(
-    log: &[u64],
-    settled: &[u64],
-    pending: &[u64],
-    i: u64,
-    answer: &mut [u64],
-) -> u64
+#[tactic(auto, using(crate::proofs::Parts::entries_sound), unfolding(crate::specs::Words::unless_short))]
+pub fn log_entries(log: &[u64], settled: &[u64], pending: &[u64], i: u64, answer: &mut [u64]) -> u64
     ensures { leaves result (answer.new ∷ []) ≡ entries_leaves log.now settled.now pending.now i answer.old }
 {
     if log.len() < LOG {
@@ -196,6 +173,7 @@ pub fn log_entries(
 }
 
 // The records after s that are committed and persisted, by the same values.
+#[tactic(auto, using(crate::proofs::Parts::next_sound), unfolding(crate::specs::Words::unless_short))]
 pub fn log_next_entries_since(
     log: &[u64],
     settled: &[u64],
@@ -217,6 +195,7 @@ pub fn log_next_entries_since(
 }
 
 // Whether there are such records.
+#[tactic(auto, unfolding(crate::specs::Words::unless_short))]
 pub fn log_has_next_entries_since(
     log: &[u64],
     settled: &[u64],

@@ -10,6 +10,7 @@ use inflights::Inflights;
 use units::refusal::BROKEN_STATE;
 
 // A window of no flights.
+#[tactic(auto, unfolding(crate::specs::Words::unless_short))]
 pub fn inflights_new(cap: u64, ring: &[u64], window: &mut [u64]) -> u64
     ensures { leaves result (window.new ∷ []) ≡ new_window_leaves cap ring.now window.old }
 {
@@ -21,6 +22,7 @@ pub fn inflights_new(cap: u64, ring: &[u64], window: &mut [u64]) -> u64
 }
 
 // Adjusts the cap, 0 included. A smaller one waits until the queue is empty.
+#[tactic(auto, unfolding(crate::specs::Words::unless_short))]
 pub fn inflights_set_cap(window: &mut [u64], ring: &[u64], cap: u64) -> u64
     ensures { leaves result (window.new ∷ []) ≡ set_cap_leaves window.old ring.now cap }
 {
@@ -33,6 +35,7 @@ pub fn inflights_set_cap(window: &mut [u64], ring: &[u64], cap: u64) -> u64
 }
 
 // Adds a flight behind the last one: the only call that writes a word of the ring.
+#[tactic(auto, unfolding(crate::specs::Words::unless_short))]
 pub fn inflights_add(window: &mut [u64], ring: &mut [u64], inflight: u64) -> u64
     ensures { leaves result (ring.new ∷ window.new ∷ []) ≡ add_leaves window.old ring.old inflight }
 {
@@ -45,6 +48,7 @@ pub fn inflights_add(window: &mut [u64], ring: &mut [u64], inflight: u64) -> u64
 }
 
 // Frees the flights in front that are at most `to`, up to the first larger one.
+#[tactic(auto, unfolding(crate::specs::Words::unless_short))]
 pub fn inflights_free_to(window: &mut [u64], ring: &[u64], to: u64) -> u64
     ensures { leaves result (window.new ∷ []) ≡ free_to_leaves window.old ring.now to }
 {
@@ -57,6 +61,7 @@ pub fn inflights_free_to(window: &mut [u64], ring: &[u64], to: u64) -> u64
 }
 
 // Frees the first flight, and with it those right behind it that are at most as large.
+#[tactic(auto, unfolding(crate::specs::Words::unless_short))]
 pub fn inflights_free_first_one(window: &mut [u64], ring: &[u64]) -> u64
     ensures { leaves result (window.new ∷ []) ≡ free_first_one_leaves window.old ring.now }
 {
@@ -69,6 +74,7 @@ pub fn inflights_free_first_one(window: &mut [u64], ring: &[u64]) -> u64
 }
 
 // Frees all flights.
+#[tactic(auto, unfolding(crate::specs::Words::unless_short))]
 pub fn inflights_reset(window: &mut [u64], ring: &[u64]) -> u64
     ensures { leaves result (window.new ∷ []) ≡ reset_leaves window.old ring.now }
 {
@@ -81,6 +87,7 @@ pub fn inflights_reset(window: &mut [u64], ring: &[u64]) -> u64
 }
 
 // Lets an empty queue begin at the ring's first word again.
+#[tactic(auto, unfolding(crate::specs::Words::unless_short))]
 pub fn inflights_maybe_free_buffer(window: &mut [u64], ring: &[u64]) -> u64
     ensures { leaves result (window.new ∷ []) ≡ maybe_free_buffer_leaves window.old ring.now }
 {
@@ -93,6 +100,7 @@ pub fn inflights_maybe_free_buffer(window: &mut [u64], ring: &[u64]) -> u64
 }
 
 // Whether no flight can be added. Value: 1 for yes, 0 for no.
+#[tactic(auto, unfolding(crate::specs::Words::unless_short))]
 pub fn inflights_full(window: &[u64], ring: &[u64], answer: &mut [u64]) -> u64
     ensures { leaves result (answer.new ∷ []) ≡ full_leaves window.now ring.now answer.old }
 {
@@ -108,6 +116,7 @@ pub fn inflights_full(window: &[u64], ring: &[u64], answer: &mut [u64]) -> u64
 }
 
 // Value: the number of flights.
+#[tactic(auto, unfolding(crate::specs::Words::unless_short))]
 pub fn inflights_count(window: &[u64], ring: &[u64], answer: &mut [u64]) -> u64
     ensures { leaves result (answer.new ∷ []) ≡ count_leaves window.now ring.now answer.old }
 {

@@ -10,6 +10,7 @@ use inflights::{Answer, Counted, Deferred, Inflights};
 pub const WINDOW: usize = 5;
 
 // What two words say of a deferred cap: a first word of 0 is none.
+#[tactic(auto, unfolding(crate::specs::WindowCalls::deferred_from))]
 fn load_deferred(deferred: u64, cap: u64) -> Deferred
     ensures { result ≡ deferred_from deferred cap }
 {
@@ -40,6 +41,7 @@ fn deferred_cap(deferred: Deferred) -> u64
 }
 
 // The window whose state a slice begins with.
+#[tactic(auto, unfolding(crate::specs::WindowCalls::window_from))]
 pub fn load_window(window: &[u64]) -> Inflights
     requires { window_length ≤ length window.now }
     ensures { result ≡ window_from window.now }

@@ -33,6 +33,7 @@ pub fn flag(b: bool) -> u64
 }
 
 // The log whose state a slice begins with.
+#[tactic(auto, unfolding(crate::specs::Words::log_from))]
 pub fn load(log: &[u64]) -> Log
     requires { log_length ≤ length log.now }
     ensures { result ≡ log_from log.now }

@@ -9,6 +9,7 @@ use units::refusal::BROKEN_STATE;
 use units::{Index, Term};
 
 // Set-up: the state of a new log over its two stores.
+#[tactic(auto, unfolding(crate::specs::Words::unless_short))]
 pub fn log_new(
     start: u64,
     start_term: u64,
@@ -33,6 +34,7 @@ pub fn log_new(
 }
 
 // The leader's own records. Value: last.
+#[tactic(auto, unfolding(crate::specs::Words::unless_short))]
 pub fn log_append(
     log: &mut [u64],
     settled: &[u64],
@@ -54,6 +56,7 @@ pub fn log_append(
 }
 
 // Committed is i, where it was below.
+#[tactic(auto, unfolding(crate::specs::Words::unless_short))]
 pub fn log_commit_to(log: &mut [u64], settled: &[u64], pending: &[u64], i: u64) -> u64
     ensures { leaves result (log.new ∷ []) ≡ commit_to_leaves log.old settled.now pending.now i }
 {
@@ -66,6 +69,7 @@ pub fn log_commit_to(log: &mut [u64], settled: &[u64], pending: &[u64], i: u64) 
 }
 
 // Commits i where it is a record of term t above committed. Value: 1 for yes, 0 for no.
+#[tactic(auto, unfolding(crate::specs::Words::unless_short))]
 pub fn log_maybe_commit(
     log: &mut [u64],
     settled: &[u64],
@@ -88,6 +92,7 @@ pub fn log_maybe_commit(
 }
 
 // Applied is i; 0 changes nothing.
+#[tactic(auto, unfolding(crate::specs::Words::unless_short))]
 pub fn log_applied_to(log: &mut [u64], settled: &[u64], pending: &[u64], i: u64) -> u64
     ensures { leaves result (log.new ∷ []) ≡ applied_to_leaves log.old settled.now pending.now i }
 {
@@ -100,6 +105,7 @@ pub fn log_applied_to(log: &mut [u64], settled: &[u64], pending: &[u64], i: u64)
 }
 
 // Persisted is i where it is a settled record of term t above persisted. Value: 1 for yes, 0 for no.
+#[tactic(auto, unfolding(crate::specs::Words::unless_short))]
 pub fn log_maybe_persist(
     log: &mut [u64],
     settled: &[u64],
@@ -122,6 +128,7 @@ pub fn log_maybe_persist(
 }
 
 // Pending records that were written go over to the settled ones.
+#[tactic(auto, unfolding(crate::specs::Words::unless_short))]
 pub fn log_stable_entries(
     log: &mut [u64],
     settled: &mut [u64],
