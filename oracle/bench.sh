@@ -43,8 +43,8 @@ count() {
             /Collected/ { print load, side, $NF / appends }'
 }
 
-step "1 of 4: prove and compile the engine (rt staticlib exports)"
-rt staticlib exports | tail -n 1
+step "1 of 4: prove and compile the engine (bash tools/staticlib.sh)"
+bash tools/staticlib.sh | tail -n 1
 
 step "2 of 4: compile the Rust sides and the driver"
 build

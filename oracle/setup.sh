@@ -1,7 +1,7 @@
 # Sourced by run.sh, faults.sh, lists.sh and ratios.sh: where things stand, what is needed, the engine's static library.
 #
 #   DECKPLOVER_RAFT_SRC  the folder of the crate raft 0.7.0 (default: ../shared/docs/src beside the repository)
-#   DECKPLOVER_LIB       the folder of libexports.a (default: it is proved and built by `rt staticlib exports`)
+#   DECKPLOVER_LIB       the folder of libexports.a (default: it is proved and built by `bash tools/staticlib.sh`)
 #   CARGO_TARGET_DIR     where all is built (default: target/oracle)
 
 oracle=$(cd "$(dirname "${BASH_SOURCE[0]}")" && pwd)
@@ -43,7 +43,7 @@ need_engine() {
     if [ "$with_engine" = no ]; then
         echo "NO ENGINE: the crate and the plain program alone are compared"
     elif [ -z "${DECKPLOVER_LIB:-}" ]; then
-        (cd "$root" && rt staticlib exports) || fail "no static library: rt staticlib exports failed (--no-engine runs without it)"
+        (cd "$root" && bash tools/staticlib.sh) || fail "no static library: bash tools/staticlib.sh failed (--no-engine runs without it)"
         export DECKPLOVER_LIB=$root/target/staticlib
     fi
     [ "$with_engine" = no ] || [ -f "$DECKPLOVER_LIB/libexports.a" ] || fail "no libexports.a in $DECKPLOVER_LIB (--no-engine runs without it)"

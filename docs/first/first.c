@@ -1,5 +1,5 @@
 /* A site of the register, from C through the static library. From the root of the repository:
- *     rt staticlib exports
+ *     bash tools/staticlib.sh
  *     gcc -I include docs/first/first.c target/staticlib/libexports.a -o target/first_c && ./target/first_c
  */
 #include <inttypes.h>

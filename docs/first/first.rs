@@ -1,5 +1,5 @@
 //! A site of the register, from Rust through the static library. From the root of the repository:
-//!     rt staticlib exports
+//!     bash tools/staticlib.sh
 //!     rustc -L target/staticlib -l static=exports docs/first/first.rs -o target/first_rs && ./target/first_rs
 
 // As include/deckplover.h declares them: a slice is a pointer and a length.

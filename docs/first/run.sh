@@ -3,7 +3,7 @@
 # holds what each prints to the file `output`. DECKPLOVER_LIB names a folder with libexports.a that is built already.
 set -euo pipefail
 cd "$(dirname "$0")/../.."
-[ -n "${DECKPLOVER_LIB:-}" ] || rt staticlib exports
+[ -n "${DECKPLOVER_LIB:-}" ] || bash tools/staticlib.sh
 lib=${DECKPLOVER_LIB:-target/staticlib}
 mkdir -p target
 rustc -L "$lib" -l static=exports docs/first/first.rs -o target/first_rs

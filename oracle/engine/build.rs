@@ -1,5 +1,5 @@
 //! Makes the bindings from include/deckplover.h, so that they can't differ from it, and names the static
-//! library that `rt staticlib exports` writes (DECKPLOVER_LIB is its folder).
+//! library that `bash tools/staticlib.sh` writes (DECKPLOVER_LIB is its folder).
 //!
 //! In the header a slice is a pointer and a length: `const uint64_t *x, size_t x_len` is lent for reading and
 //! becomes `x: &[u64]`, `uint64_t *x, size_t x_len` may be written and becomes `x: &mut [u64]`; `uint64_t x`
