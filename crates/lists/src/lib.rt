@@ -102,6 +102,7 @@ fn read_all<I: Read, W: Write>(
 pub const LINE: usize = 512;
 
 // The whole list, from standard input to standard output. Answers how many numbers stand behind the last line feed: none, where the list is whole.
+// An error is that of a read or a write that failed, and ends it: nothing was lent that it could leave changed.
 pub fn replay(rt: &(impl Input + Print)) -> io::Result<usize>
     ensures { IfOk result (λ count. count ≤ longest_line) }
 {
