@@ -26,11 +26,11 @@ fn conflict_across(
     gap: u64,
     held: u64,
 ) -> u64
-    requires n_bound { (n ≤ run_count run.now) × (idx + n ≤ word_max) }
+    requires in_run { (n ≤ run_count run.now) × (idx + n ≤ word_max) }
     requires good { Good log settled.now pending.now }
-    requires start_le_idx { (log.start.0 ≤ idx) × (idx ≤ last_of log) }
-    requires n_value { first_from (zero_at (run_term run.now)) 0 n ≡ n }
-    requires gap_value { (idx + 1 + gap ≡ log.offset.0) × (held ≡ min n (last_of log - idx)) }
+    requires idx_in_log { (log.start.0 ≤ idx) × (idx ≤ last_of log) }
+    requires terms_set { first_from (zero_at (run_term run.now)) 0 n ≡ n }
+    requires gap_and_held { (idx + 1 + gap ≡ log.offset.0) × (held ≡ min n (last_of log - idx)) }
     ensures { result ≡ alike_before log settled.now pending.now idx run.now n }
 {
     let at = idx - log.start.0;
@@ -46,10 +46,10 @@ fn conflict_across(
 
 // How many records come before the first that differs. Each store is searched where the run's records would stand in it; past the last record all differ.
 fn first_conflict(log: Log, settled: &[u64], pending: &[u64], idx: u64, run: &[u64], n: u64) -> u64
-    requires n_bound { (n ≤ run_count run.now) × (idx + n ≤ word_max) }
+    requires in_run { (n ≤ run_count run.now) × (idx + n ≤ word_max) }
     requires good { Good log settled.now pending.now }
-    requires start_le_idx { (log.start.0 ≤ idx) × (idx ≤ last_of log) }
-    requires n_value { first_from (zero_at (run_term run.now)) 0 n ≡ n }
+    requires idx_in_log { (log.start.0 ≤ idx) × (idx ≤ last_of log) }
+    requires terms_set { first_from (zero_at (run_term run.now)) 0 n ≡ n }
     ensures { result ≡ alike_before log settled.now pending.now idx run.now n }
 {
     let offset = log.offset.0;
@@ -126,8 +126,8 @@ fn matched(
     n: u64,
 ) -> Appended
     requires good { Good log settled.now pending.now }
-    requires n_bound { (n ≤ run_count run.now) × (idx + n ≤ index_limit) }
-    requires n_value { first_from (zero_at (run_term run.now)) 0 n ≡ n }
+    requires in_run { (n ≤ run_count run.now) × (idx + n ≤ index_limit) }
+    requires terms_set { first_from (zero_at (run_term run.now)) 0 n ≡ n }
     ensures { result ≡ match_run log settled.now pending.now idx term commit run.now n }
 {
     if is_outside(log, settled, pending, idx, term) {
@@ -166,8 +166,8 @@ pub fn maybe_append_answer(
 // Refusals 6, 8, 7 and 8, or the log after a run of n records from index `first` on.
 #[tactic(auto, unfolding(crate::specs::Extend::extend_from))]
 fn extended(log: Log, pending: &[u64], first: u64, n: u64) -> Extended
-    requires le_first { (1 ≤ first) × (1 ≤ n) × (first + n ≤ word_max) }
-    requires le_offset { (1 ≤ log.offset.0) × (log.offset.0 + log.count ≤ word_max) }
+    requires run_fits { (1 ≤ first) × (1 ≤ n) × (first + n ≤ word_max) }
+    requires log_fits { (1 ≤ log.offset.0) × (log.offset.0 + log.count ≤ word_max) }
     ensures { result ≡ extend_from log pending.now first n }
 {
     if first <= log.committed.0 {

@@ -233,6 +233,7 @@ impl Log {
     }
 
     // AppendEntries at the receiver: the answer, the log after it, and the pending store.
+    #[tactic(auto, using(crate::proofs::Appending::answer_cut))]
     pub fn maybe_append(
         self,
         settled: &[u64],
@@ -265,6 +266,7 @@ impl Log {
     }
 
     // The leader's own records, cut in from the run's first index.
+    #[tactic(auto, using(crate::proofs::Extending::extend_cut))]
     pub fn append(self, settled: &[u64], pending: &mut [u64], run: &[u64]) -> Extended
         ensures answer { result ≡ append_run self settled.now pending.old run.now }
         ensures store { pending.new ≡ append_run_store result pending.old run.now }
@@ -372,6 +374,7 @@ impl Log {
     }
 
     // Pending records that were written go over to the settled ones.
+    #[tactic(auto, using(crate::proofs::Settling::settle_room))]
     pub fn stable_entries(self, settled: &mut [u64], pending: &[u64], i: Index, t: Term) -> Changed
         ensures answer { result ≡ stable_entries self settled.old pending.now i.0 t.0 }
         ensures store { settled.new ≡ stable_entries_store result self settled.old pending.now }

@@ -46,8 +46,8 @@ pub fn run_term(run: &[u64], k: u64) -> u64
 
 // Record k of a run put in place of record `at` of a store. All words are read before any is stored, so that they can move at once.
 fn put_record(store: &mut [u64], at: u64, run: &[u64], k: u64)
-    requires at_bound { at < room store.old }
-    requires k_bound { k < run_count run.now }
+    requires at_in_store { at < room store.old }
+    requires k_in_run { k < run_count run.now }
     ensures { store.new ≡ put_record store.old at (record_of run.now k) }
 {
     let to = at as usize * Log::WORDS;
@@ -60,8 +60,8 @@ fn put_record(store: &mut [u64], at: u64, run: &[u64], k: u64)
 
 // The n records of a run from record k on put in place of a store's from record `at` on.
 pub fn put_run(store: &mut [u64], at: u64, run: &[u64], k: u64, n: u64)
-    requires n_bound { at + n ≤ room store.old }
-    requires n_bound_2 { k + n ≤ run_count run.now }
+    requires in_store { at + n ≤ room store.old }
+    requires in_run { k + n ≤ run_count run.now }
     ensures { store.new ≡ put_run store.old at run.now k n }
 {
     let mut i = 0;
@@ -73,8 +73,8 @@ pub fn put_run(store: &mut [u64], at: u64, run: &[u64], k: u64, n: u64)
 
 // How many of the n records of a run from record k on, one after the other, have the terms of a store's from record `at` on.
 pub fn same_terms(store: &[u64], at: u64, run: &[u64], k: u64, n: u64) -> u64
-    requires n_bound { at + n ≤ room store.now }
-    requires n_bound_2 { k + n ≤ run_count run.now }
+    requires in_store { at + n ≤ room store.now }
+    requires in_run { k + n ≤ run_count run.now }
     ensures { result ≡ first_from (other_term store.now at run.now k) 0 n }
 {
     let mut i = 0;

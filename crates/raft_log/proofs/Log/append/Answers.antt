@@ -1,7 +1,7 @@
 -- `append` meets its contract: the answer is decided first, and what it says is what the copy asks.
-use Rattle.std.proofs.Common.{◌≡◌, ◌-◌, ℕ, List, sym, ◌∙◌, arith}
+use Rattle.std.proofs.Common.{◌≡◌, ◌-◌, ℕ, List, ◌∙◌}
 use Rattle.raft_log.specs.Words.{run_index, run_count, put_run}
-use Rattle.raft_log.proofs.Extending.{extend_cut, store_refused, store_empty, store_put}
+use Rattle.raft_log.proofs.Extending.{store_refused, store_empty, store_put}
 use Rattle.raft_log.proofs.Log.append.Goals as goal
 
 -- the copy, by the first index and the count that were read
@@ -14,16 +14,6 @@ returns-in_default-clause-store c = store_refused _ _ c.in_default.is
 
 pub returns-then-run-eq0-clause-store : goal.returns-then-run-eq0-clause-store
 returns-then-run-eq0-clause-store c = store_empty _ _ _ _ c.if-run-eq0.true
-
-pub overflow_sub-at : goal.overflow_sub-at
-overflow_sub-at c =
-    let known = extend_cut c.args.self c.args.settled.now c.args.pending.now c.args.run.now (sym c.in-Last.ensures) c.if-run-eq0.false in
-    omega arith
-
-pub put_run-requires-clause-n_bound : goal.put_run-requires-clause-n_bound
-put_run-requires-clause-n_bound c =
-    let known = extend_cut c.args.self c.args.settled.now c.args.pending.now c.args.run.now (sym c.in-Last.ensures) c.if-run-eq0.false in
-    omega arith
 
 pub returns-clause-store : goal.returns-clause-store
 returns-clause-store c =

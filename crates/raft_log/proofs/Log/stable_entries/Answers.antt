@@ -12,21 +12,6 @@ overflow_sub-at c =
     let known = settle_room c.args.self c.args.settled.now c.args.pending.now c.args.i.0 c.args.t.0 (sym c.in-Now.ensures) in
     omega arith
 
-pub overflow_sub-at-2 : goal.overflow_sub-at-2
-overflow_sub-at-2 c =
-    let known = settle_room c.args.self c.args.settled.now c.args.pending.now c.args.i.0 c.args.t.0 (sym c.in-Now.ensures) in
-    omega arith
-
-pub overflow_mul-at : goal.overflow_mul-at
-overflow_mul-at c =
-    let known = settle_room c.args.self c.args.settled.now c.args.pending.now c.args.i.0 c.args.t.0 (sym c.in-Now.ensures) in
-    omega arith
-
-pub overflow_mul-n : goal.overflow_mul-n
-overflow_mul-n c =
-    let known = settle_room c.args.self c.args.settled.now c.args.pending.now c.args.i.0 c.args.t.0 (sym c.in-Now.ensures) in
-    omega arith
-
 pub slice_bounds-copy_at-end : goal.slice_bounds-copy_at-end
 slice_bounds-copy_at-end c =
     let known = settle_room c.args.self c.args.settled.now c.args.pending.now c.args.i.0 c.args.t.0 (sym c.in-Now.ensures) in

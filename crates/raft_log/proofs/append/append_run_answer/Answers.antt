@@ -31,8 +31,8 @@ returns-in_default c =
     (λ z. c.if-first-eq0.false (first ∙ z))
     (from_first _ first c.in_default.ensures))
 
-pub extended-requires-clause-le_first : goal.extended-requires-clause-le_first
-extended-requires-clause-le_first c =
+pub extended-requires-clause-run_fits : goal.extended-requires-clause-run_fits
+extended-requires-clause-run_fits c =
     let run = run_passed c.args.run.now (c.run_index-first.result - 1) (sym c.in-Records.ensures) in
     omega arith
 

@@ -8,12 +8,12 @@ use Rattle.raft_log.proofs.append.conflict_across.Goals as goal
 pub returns-then-held-gap : goal.returns-then-held-gap
 returns-then-held-gap c =
     let r = c.requires in
-    conflict_held (record { good = r.good; within = r.start_le_idx; set = r.n_value }) _ r.gap_value.1 (omega arith) c.same_terms.ensures
+    conflict_held (record { good = r.good; within = r.idx_in_log; set = r.terms_set }) _ r.gap_and_held.1 (omega arith) c.same_terms.ensures
 
 pub returns-then-k-gap : goal.returns-then-k-gap
 returns-then-k-gap c =
     let r = c.requires in
-    conflict_settled (record { good = r.good; within = r.start_le_idx; set = r.n_value }) _ (omega arith) (omega arith) c.same_terms-k.ensures c.if-k-gap.true
+    conflict_settled (record { good = r.good; within = r.idx_in_log; set = r.terms_set }) _ (omega arith) (omega arith) c.same_terms-k.ensures c.if-k-gap.true
 
 -- the search in pending ends within what it searches
 pub overflow_add-result : goal.overflow_add-result
@@ -26,9 +26,9 @@ overflow_add-result c =
 pub returns : goal.returns
 returns c =
     let r = c.requires in
-    conflict_over (record { good = r.good; within = r.start_le_idx; set = r.n_value }) _ _
+    conflict_over (record { good = r.good; within = r.idx_in_log; set = r.terms_set }) _ _
     (omega arith)
-    r.gap_value.0
+    r.gap_and_held.0
     c.same_terms-k.ensures
     c.if-k-gap.false
     c.same_terms-2.ensures

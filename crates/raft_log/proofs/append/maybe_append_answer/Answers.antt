@@ -10,13 +10,13 @@ pub returns-in_default : goal.returns-in_default
 returns-in_default c =
     ap Refused (c.refusal.ensures ∙ ap refused_by c.in_default.is) ∙ sym (answer_run _ _ _ _ _ _ _ (ap not (sym c.if-not-state_ok.ensures)) (sym c.in_default.ensures))
 
-pub matched-requires-clause-n_bound : goal.matched-requires-clause-n_bound
-matched-requires-clause-n_bound c =
+pub matched-requires-clause-in_run : goal.matched-requires-clause-in_run
+matched-requires-clause-in_run c =
     let run = run_passed c.args.run.now c.args.idx (sym c.in-Records.ensures) in
     omega arith
 
-pub matched-requires-clause-n_value : goal.matched-requires-clause-n_value
-matched-requires-clause-n_value c = (run_passed _ _ (sym c.in-Records.ensures)).set
+pub matched-requires-clause-terms_set : goal.matched-requires-clause-terms_set
+matched-requires-clause-terms_set c = (run_passed _ _ (sym c.in-Records.ensures)).set
 
 pub returns : goal.returns
 returns c =
