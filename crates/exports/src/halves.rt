@@ -58,6 +58,7 @@ fn distinct(words: &[u64]) -> bool
 }
 
 // 12 where the rows are too many, or an id stands in two.
+#[tactic(auto, using(crate::proofs::RowWords::rows_count))]
 pub fn rows_checked(words: &[u64]) -> Check
     ensures { result ≡ rows_check (peers_from words.now) }
 {
@@ -71,6 +72,7 @@ pub fn rows_checked(words: &[u64]) -> Check
 }
 
 // What a question reads of the row of `id`: 0 where there is none.
+#[tactic(auto, using(crate::proofs::RowWords::read_nowhere, crate::proofs::RowWords::read_there))]
 fn found(words: &[u64], id: u64, question: Question) -> u64
     ensures { result ≡ read_of question words.now id }
 {

@@ -10,6 +10,7 @@ use units::Term;
 use units::refusal::BROKEN_STATE;
 
 // Commits what a majority of every nonempty half has acknowledged. Value: 1 for yes, 0 for no.
+#[tactic(auto, unfolding(crate::specs::Words::unless_short, leader::specs::Leader::leader_commit))]
 pub fn leader_maybe_commit(
     log: &mut [u64],
     settled: &[u64],

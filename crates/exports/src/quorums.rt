@@ -77,6 +77,7 @@ fn write_sizes(answer: &mut [u64], config: JointConfig) -> u64
 }
 
 // How far a majority has acknowledged. Values: the index, and 1 if nobody had a say.
+#[tactic(auto, unfolding(crate::specs::Words::unless_short))]
 pub fn majority_committed_index(voters: &[u64], rows: &[u64], answer: &mut [u64]) -> u64
     ensures { leaves result (answer.new ∷ []) ≡ majority_committed_index_leaves voters.now rows.now answer.old }
 {
@@ -88,6 +89,7 @@ pub fn majority_committed_index(voters: &[u64], rows: &[u64], answer: &mut [u64]
 }
 
 // How the vote stands: 0 pending, 1 lost, 2 won.
+#[tactic(auto, unfolding(crate::specs::Words::unless_short))]
 pub fn majority_vote_result(voters: &[u64], rows: &[u64], answer: &mut [u64]) -> u64
     ensures { leaves result (answer.new ∷ []) ≡ majority_vote_result_leaves voters.now rows.now answer.old }
 {
@@ -99,6 +101,7 @@ pub fn majority_vote_result(voters: &[u64], rows: &[u64], answer: &mut [u64]) ->
 }
 
 // How far a majority of both halves has acknowledged.
+#[tactic(auto, unfolding(crate::specs::Words::unless_short))]
 pub fn joint_committed_index(
     incoming: &[u64],
     outgoing: &[u64],
@@ -115,6 +118,7 @@ pub fn joint_committed_index(
 }
 
 // How the vote of both halves stands.
+#[tactic(auto, unfolding(crate::specs::Words::unless_short))]
 pub fn joint_vote_result(
     incoming: &[u64],
     outgoing: &[u64],
@@ -131,6 +135,7 @@ pub fn joint_vote_result(
 }
 
 // One incoming voter, and nobody outgoing.
+#[tactic(auto, unfolding(crate::specs::Words::unless_short))]
 pub fn joint_is_singleton(incoming: &[u64], outgoing: &[u64], answer: &mut [u64]) -> u64
     ensures { leaves result (answer.new ∷ []) ≡ is_singleton_leaves incoming.now outgoing.now answer.old }
 {
@@ -142,6 +147,7 @@ pub fn joint_is_singleton(incoming: &[u64], outgoing: &[u64], answer: &mut [u64]
 }
 
 // Whether `id` is a voter of either half.
+#[tactic(auto, unfolding(crate::specs::Words::unless_short))]
 pub fn joint_contains(
     incoming: &[u64],
     outgoing: &[u64],
@@ -158,6 +164,7 @@ pub fn joint_contains(
 }
 
 // The ids of both halves in rising order. Values: how many, and a word for each that there can be.
+#[tactic(auto, unfolding(crate::specs::Words::unless_short))]
 pub fn joint_ids(incoming: &[u64], outgoing: &[u64], answer: &mut [u64]) -> u64
     ensures { leaves result (answer.new ∷ []) ≡ joint_ids_leaves incoming.now outgoing.now answer.old }
 {
@@ -169,6 +176,7 @@ pub fn joint_ids(incoming: &[u64], outgoing: &[u64], answer: &mut [u64]) -> u64
 }
 
 // No ids in either half, whatever they were. Values: how many ids are left incoming, and how many outgoing.
+#[tactic(auto, unfolding(crate::specs::Words::unless_short))]
 pub fn joint_clear(incoming: &[u64], outgoing: &[u64], answer: &mut [u64]) -> u64
     ensures { leaves result (answer.new ∷ []) ≡ clear_leaves incoming.now outgoing.now answer.old }
 {

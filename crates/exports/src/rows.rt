@@ -32,6 +32,7 @@ fn vote(said: u64) -> Vote
 }
 
 // The row whose words begin at `at`: it and those behind it are the rows from there on.
+#[tactic(auto, using(crate::proofs::RowWords::row_at))]
 pub fn row(words: &[u64], at: usize) -> Peer
     requires { at + row_length ≤ length words.now }
     ensures { peers_from (drop at words.now) ≡ result ∷ peers_from (drop (at + row_length) words.now) }
