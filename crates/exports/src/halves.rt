@@ -118,6 +118,7 @@ fn half_result(voters: &[u64], rows: &[u64]) -> VoteResult
 }
 
 // How far a majority has acknowledged.
+#[tactic(auto, unfolding(quorum::specs::Majority::committed_index))]
 pub fn majority_index(voters: &[u64], rows: &[u64]) -> Committed
     ensures { result ≡ committed_index (set_of voters.now) (peers_from rows.now) }
 {
@@ -130,6 +131,7 @@ pub fn majority_index(voters: &[u64], rows: &[u64]) -> Committed
 }
 
 // How the vote stands.
+#[tactic(auto, unfolding(quorum::specs::Majority::vote_result))]
 pub fn majority_verdict(voters: &[u64], rows: &[u64]) -> Verdict
     ensures { result ≡ vote_result (set_of voters.now) (peers_from rows.now) }
 {
@@ -141,6 +143,7 @@ pub fn majority_verdict(voters: &[u64], rows: &[u64]) -> Verdict
 }
 
 // How far a majority of both halves has acknowledged.
+#[tactic(auto, unfolding(quorum::specs::Joint::joint_committed_index))]
 pub fn joint_index(incoming: &[u64], outgoing: &[u64], rows: &[u64]) -> Committed
     ensures { result ≡ joint_committed_index (config_from incoming.now outgoing.now) (peers_from rows.now) }
 {
@@ -155,6 +158,7 @@ pub fn joint_index(incoming: &[u64], outgoing: &[u64], rows: &[u64]) -> Committe
 }
 
 // How the vote of both halves stands.
+#[tactic(auto, unfolding(quorum::specs::Joint::joint_vote_result))]
 pub fn joint_verdict(incoming: &[u64], outgoing: &[u64], rows: &[u64]) -> Verdict
     ensures { result ≡ joint_vote_result (config_from incoming.now outgoing.now) (peers_from rows.now) }
 {
