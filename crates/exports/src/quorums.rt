@@ -148,12 +148,7 @@ pub fn joint_is_singleton(incoming: &[u64], outgoing: &[u64], answer: &mut [u64]
 
 // Whether `id` is a voter of either half.
 #[tactic(auto, unfolding(crate::specs::Words::unless_short))]
-pub fn joint_contains(
-    incoming: &[u64],
-    outgoing: &[u64],
-    id: u64,
-    answer: &mut [u64],
-) -> u64
+pub fn joint_contains(incoming: &[u64], outgoing: &[u64], id: u64, answer: &mut [u64]) -> u64
     ensures { leaves result (answer.new ∷ []) ≡ contains_leaves incoming.now outgoing.now id answer.old }
 {
     if answer.len() < SINGLE {

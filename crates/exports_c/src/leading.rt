@@ -17,5 +17,7 @@ pub extern "C" fn leader_maybe_commit(
 ) -> u64
     ensures { leaves result (log.new ∷ answer.new ∷ []) ≡ leader_commit_leaves log.old settled.now pending.now term incoming.now outgoing.now rows.now answer.old }
 {
-    exports::leading::leader_maybe_commit(log, settled, pending, term, incoming, outgoing, rows, answer)
+    exports::leading::leader_maybe_commit(
+        log, settled, pending, term, incoming, outgoing, rows, answer,
+    )
 }
