@@ -5,19 +5,22 @@ use mathlib.Core.Bool.{true, and-eq-true_iff}
 use mathlib.Core.Logic.{⊎_elim}
 use mathlib.Core.List.{List}
 use lib.Dec.{leb}
-use lib.ListN.{length}
+use lib.ListN.{length, take}
 use borrow.Author.Tests.{leb-true, le-leb, lt-leb}
 use Rattle.units.specs.declared.Check.{Check}
 use Rattle.units.specs.declared.Check.TheVariants as check
 use Rattle.units.specs.Refusals.{broken_set, both_checks, unless}
 use Rattle.units.proofs.Checks.{holds, both_fine, same_unless}
 use Rattle.units.proofs.Numbers.{below_or_not}
-use Rattle.quorum.specs.Limits.{voter_limit}
-use Rattle.quorum.specs.Ids.{distinct, few_distinct, fine_if}
+use Rattle.quorum.specs.Limits.{voter_limit, row_limit}
+use Rattle.quorum.specs.Ids.{distinct, few_distinct, fine_if, check_of}
+use Rattle.quorum.specs.Rows.{ids_of, plain_check}
 use Rattle.quorum.specs.Voters.{voters_of, voters_check, set_of}
 use Rattle.quorum.specs.Joint.{config_check}
 use Rattle.quorum.specs.declared.majority.Voters.{Voters}
+use Rattle.quorum.specs.declared.rows.Rows.{Rows}
 use Rattle.quorum.specs.declared.joint.JointConfig.{JointConfig}
+use Rattle.quorum.proofs.Front.{Front, front}
 use Rattle.quorum.proofs.Padded.{take-padded}
 
 -- Over the limit the ids don't matter; within it they alone do.
@@ -35,6 +38,10 @@ module _ (count limit : ℕ) (ids : List ℕ) where
 
     pub each_once : distinct ids ≡ true
     each_once = ((and-eq-true_iff (leb count limit) (distinct ids)).0 (holds _ _ fine)).1
+
+-- The check of an array that is as long as the limit.
+pub checked_by : (ids : List ℕ) (count : ℕ) {limit : ℕ} → length ids ≡ limit → check_of ids count ≡ fine_if (few_distinct count limit (take count ids))
+checked_by ids count sized = ap (λ (limit : ℕ). fine_if (few_distinct count limit (take count ids))) sized
 
 -- Lists that are the same within the limit are checked alike.
 pub same_check : (count limit : ℕ) (ids others : List ℕ) → (count ≤ limit → ids ≡ others) → fine_if (few_distinct count limit ids) ≡ fine_if (few_distinct count limit others)
@@ -54,6 +61,29 @@ incoming_within c e = voters_within c.incoming ((both_fine (voters_check c.incom
 
 pub outgoing_within : (c : JointConfig) → config_check c ≡ check.Fine → c.outgoing.count ≤ voter_limit
 outgoing_within c e = voters_within c.outgoing ((both_fine (voters_check c.incoming) (voters_check c.outgoing)).0 e).1
+
+-- A question over gathered rows r whose check is passed: k is the check of its voters, and the rows' arrays have a place for each row up to the limit.
+pub record Passed (k : Check) (r : Rows) : Type 0 where
+  pub fine : both_checks k (plain_check r) ≡ check.Fine
+  pub ids_sized : length r.ids ≡ row_limit
+  pub values_sized : length r.values ≡ row_limit
+
+pub passes : {k told : Check} {r : Rows} → told ≡ both_checks k (plain_check r) → told ≡ check.Fine → length r.ids ≡ row_limit → length r.values ≡ row_limit → Passed k r
+passes made fine ids_sized values_sized = record { fine = sym made ∙ fine; ids_sized = ids_sized; values_sized = values_sized }
+
+module _ {k : Check} {r : Rows} (p : Passed k r) where
+  pub voters_fine : k ≡ check.Fine
+  voters_fine = ((both_fine k (plain_check r)).0 p.fine).0
+
+  few : r.count ≤ row_limit
+  few = within r.count row_limit (ids_of r) ((both_fine k (plain_check r)).0 p.fine).1
+
+  -- the rows' arrays hold what they count
+  pub ids_front : Front r.ids r.count
+  ids_front = front r.ids r.count p.ids_sized few
+
+  pub values_front : Front r.values r.count
+  values_front = front r.values r.count p.values_sized few
 
 -- A set of ids is checked as the ids are.
 pub set_check_lem : (ids : List ℕ) → voters_check (set_of ids) ≡ fine_if (few_distinct (length ids) voter_limit ids)

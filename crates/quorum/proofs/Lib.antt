@@ -1,9 +1,12 @@
 pub mod IdLaws
 pub mod Checks
 pub mod Padded
+pub mod Front
+pub mod Sizes
 pub mod Rest
 pub mod Sinking
 pub mod Sorting
 pub mod Listing
+pub mod Values
 pub mod Answers
 pub mod Gathered
