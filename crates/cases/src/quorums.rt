@@ -94,11 +94,8 @@ fn vote(said: u64) -> Vote {
 // Rows that say these things, whose ids are 1, 2, 3 and so on.
 fn table(question: Question, said: &[u64]) -> Table {
     let mut table = Table::empty();
-    let mut i = 0;
-    while i < said.len() {
-        let word = said[i];
-        i += 1;
-        table = table.with(saying(question, i as u64, word));
+    for (i, word) in said.iter().enumerate() {
+        table = table.with(saying(question, i as u64 + 1, *word));
     }
     table
 }
