@@ -13,7 +13,7 @@ use Rattle.units.specs.Refusals.{out_of_range, window_full}
 use Rattle.units.specs.Lists.{listed}
 use Rattle.units.specs.declared.Check.TheVariants as check
 use Rattle.units.proofs.Never.{never}
-use Rattle.rules.specs.Count.{count, Reordered, keep, swap, then}
+use Rattle.rules.specs.Count.{Reordered, keep, swap, then}
 use Rattle.rules.specs.Log.{Entry, nothing, Log as Abstract, entry_at, Holds}
 use Rattle.rules.specs.Majority.{MajorityReached, Commits}
 use Rattle.rules.proofs.Count.{count_reordered}
