@@ -18,7 +18,7 @@ use Rattle.raft_log.specs.Words.{run_count}
 use Rattle.raft_log.specs.State.{broken, last_of}
 use Rattle.raft_log.specs.Run.{misnumbered, zero_term_in}
 use Rattle.raft_log.specs.Append.{after_message, outside, mismatched, cuts, overfull, decide, match_run, maybe_append, maybe_append_store}
-use Rattle.raft_log.specs.Extend.{first_of, bad_run, starts_committed, leaves_gap, starts_persisted, extend_from, append_run, append_run_store, extended as extendedLog}
+use Rattle.raft_log.specs.Extend.{first_of, bad_run, starts_committed, leaves_gap, starts_persisted, extend_from, append_run, append_run_store, extended as extended_log}
 use Rattle.raft_log.specs.Commit.{may_commit, may_persist, commit_to, applied_to, maybe_commit, maybe_persist}
 use Rattle.raft_log.specs.Settle.{settled_overfull, is_last, stable_entries, stable_entries_store}
 use Rattle.raft_log.specs.Setup.{setup_ok, settled_zero, new_log}
@@ -81,17 +81,17 @@ module _ {A : Type 0} {refused : ℕ → A} {said : A} {slices : List (List ℕ)
 
 -- An answer that writes one slice tells what happened, by what it leaves of the slice.
 abbrev Answered : {A : Type 0} → (ℕ → A) → (A → List ℕ → Outcome) → List ℕ → A → Type 0
-Answered refused leavesOf slice said = Tells refused said (slice ∷ []) (leavesOf said slice)
+Answered refused leaves_of slice said = Tells refused said (slice ∷ []) (leaves_of said slice)
 
 -- No refusal's number is 0.
 abbrev Nonzero : ℕ → Type 0
 Nonzero n = n ≢ 0
 
 -- So does an answer by a check of such numbers, behind a test of the slice's length, where each refusal does and what it says otherwise.
-by_check : {A : Type 0} (refused : ℕ → A) (leavesOf : A → List ℕ → Outcome) (slice : List ℕ) (words : ℕ) (k : Check) {said : A} → Refuses Nonzero k
-    → ((m : ℕ) → Nonzero m → Answered refused leavesOf slice (refused m)) → Answered refused leavesOf slice said
-    → Tells refused (unless refused k said) (slice ∷ []) (unless_short slice words (slice ∷ []) (leavesOf (unless refused k said) slice))
-by_check refused leavesOf slice words k numbered p q = behind _ _ (either_answer refused (Answered refused leavesOf slice) k (λ _. q) (λ m e. p m (numbered m e)))
+by_check : {A : Type 0} (refused : ℕ → A) (leaves_of : A → List ℕ → Outcome) (slice : List ℕ) (words : ℕ) (k : Check) {said : A} → Refuses Nonzero k
+    → ((m : ℕ) → Nonzero m → Answered refused leaves_of slice (refused m)) → Answered refused leaves_of slice said
+    → Tells refused (unless refused k said) (slice ∷ []) (unless_short slice words (slice ∷ []) (leaves_of (unless refused k said) slice))
+by_check refused leaves_of slice words k numbered p q = behind _ _ (either_answer refused (Answered refused leaves_of slice) k (λ _. q) (λ m e. p m (numbered m e)))
 
 -- ---- The log
 
@@ -111,9 +111,9 @@ bounds_tells answer (bounds.Refused number) l settled pending held = refuses hel
 
 module _ (log settled pending : List ℕ) where
   -- A call that only reads the log: 1 where that is broken, else what it says.
-  reads : {A : Type 0} (refused : ℕ → A) (leavesOf : A → List ℕ → Outcome) (answer : List ℕ) (words : ℕ) {said : A} → Answered refused leavesOf answer (refused broken_state) → Answered refused leavesOf answer said
-      → let given = cond (broken (log_from log) settled pending) (refused broken_state) said in Tells refused given (answer ∷ []) (reading log log_length words answer (leavesOf given answer))
-  reads refused leavesOf answer words p q = behind _ _ (behind _ _ (both_ends (Answered refused leavesOf answer) (broken (log_from log) settled pending) p q))
+  reads : {A : Type 0} (refused : ℕ → A) (leaves_of : A → List ℕ → Outcome) (answer : List ℕ) (words : ℕ) {said : A} → Answered refused leaves_of answer (refused broken_state) → Answered refused leaves_of answer said
+      → let given = cond (broken (log_from log) settled pending) (refused broken_state) said in Tells refused given (answer ∷ []) (reading log log_length words answer (leaves_of given answer))
+  reads refused leaves_of answer words p q = behind _ _ (behind _ _ (both_ends (Answered refused leaves_of answer) (broken (log_from log) settled pending) p q))
 
   pub log_term_tells : (i : ℕ) (answer : List ℕ) → Tells looked.Refused (look_term (log_from log) settled pending i) (answer ∷ []) (term_leaves log settled pending i answer)
   unfolding look_term
@@ -175,7 +175,7 @@ module _ (log settled pending run answer : List ℕ) where
       (both_ends Extends (eqb (length run) 0) (answers (λ n e. cc))
       (both_ends Extends (starts_committed (log_from log) (first_of run)) (refuses (omega arith))
       (both_ends Extends (leaves_gap (log_from log) (first_of run)) (refuses (omega arith))
-      (both_ends Extends (overfull (extendedLog (log_from log) (first_of run) (run_count run)) pending) (refuses (omega arith))
+      (both_ends Extends (overfull (extended_log (log_from log) (first_of run) (run_count run)) pending) (refuses (omega arith))
       (both_ends Extends (starts_persisted (log_from log) (first_of run)) (refuses (omega arith)) (answers (λ n e. cc)))))))))))
 
 -- An answer yes or no, and the state after it; and that of a call on a log: 1 where it is broken, else a yes or a no.

@@ -85,4 +85,4 @@ unless_short slice words slices out = cond (ltb (length slice) words) (leaves br
 
 -- What a call that only reads leaves of its answer, where its slices are long enough for the state's words and for the answer's; else 1, as above.
 abbrev pub reading : List ℕ → ℕ → ℕ → List ℕ → Outcome → Outcome
-reading state stateWords words answer out = unless_short state stateWords (answer ∷ []) (unless_short answer words (answer ∷ []) out)
+reading state state_words words answer out = unless_short state state_words (answer ∷ []) (unless_short answer words (answer ∷ []) out)

@@ -1,7 +1,7 @@
 // The quorum questions over words. The row of a voter is looked up where it stands, so that nothing is copied but what each voter said.
 ghost use Rattle.std.specs.Prelude.{◌≡◌, map, ◌+◌, ◌*◌, ◌≤◌, length, take, drop};
 ghost use Rattle.quorum.specs.Limits.{voter_limit};
-ghost use Rattle.quorum.specs.Ids.{position, distinct as distinctOf};
+ghost use Rattle.quorum.specs.Ids.{position, distinct as distinct_of};
 ghost use Rattle.quorum.specs.Rows.{rows_check};
 ghost use Rattle.quorum.specs.Voters.{set_of};
 ghost use Rattle.quorum.specs.Half.{half_index, numbers_result};
@@ -43,7 +43,7 @@ fn place(words: &[u64], from: usize, id: u64) -> usize
 
 // Whether no id stands in two rows.
 fn distinct(words: &[u64]) -> bool
-    ensures { result ≡ distinctOf (row_ids words.now) }
+    ensures { result ≡ distinct_of (row_ids words.now) }
 {
     let end = rows_end(words);
     let mut at = 0;

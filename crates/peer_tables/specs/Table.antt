@@ -1,4 +1,4 @@
--- Peer rows by value. 01 has no such call: its questions "read a lent list of peer rows", and whoever lends a slice of structs needs a walk by hand (docs/DECISIONS.md, 11). A table holds the rows in an array and lends them on, so that programs need none and still run the lent calls.
+-- Peer rows by value. 01 has no such call: its questions "read a lent list of peer rows". A table holds the rows in an array and lends them on (docs/DECISIONS.md, 11), so that programs that hold rows run the lent calls.
 -- A reader must know: the rows of a table are the first `count`; over the limit every question is refused with 12, and else its answer is that of the lent rows.
 use Rattle.std.specs.Prelude.{◌+◌, min, Bool, cond, List, take, set, replicate, ltb}
 use Rattle.units.specs.Refusals.{broken_set}

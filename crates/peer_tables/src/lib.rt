@@ -1,5 +1,5 @@
 #![tactic(auto)]
-// Peer rows by value, for callers that hold them in an array. The quorum questions read lent rows, and whoever lends a slice of structs is proved by a walk by hand: it is done once, in `lend`, and the callers of this crate need none.
+// Peer rows by value, for callers that hold them in an array. The quorum questions read lent rows: `lend` lends a table's, for the call only.
 pub mod joint;
 mod lend;
 pub mod majority;

@@ -73,8 +73,8 @@ apart_as read = by_words (λ x. words_of (read x))
 abbrev pub blank : List ℕ
 blank = replicate log_length 0
 
-pub apart_by : {A : Type 0} {a b : A} (leavesOf : A → List ℕ → Outcome) → same (words_of (leavesOf a blank)) (words_of (leavesOf b blank)) ≡ false → a ≢ b
-apart_by leavesOf = apart_as (λ x. leavesOf x blank)
+pub apart_by : {A : Type 0} {a b : A} (leaves_of : A → List ℕ → Outcome) → same (words_of (leaves_of a blank)) (words_of (leaves_of b blank)) ≡ false → a ≢ b
+apart_by leaves_of = apart_as (λ x. leaves_of x blank)
 
 -- A store's words, and an outcome, read as they stand.
 abbrev pub as_store : List ℕ → Outcome

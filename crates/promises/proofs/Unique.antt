@@ -11,7 +11,7 @@ use Rattle.units.specs.Refusals.{refusal_of, both_checks}
 use Rattle.units.specs.declared.Index.{Index}
 use Rattle.units.specs.declared.Term.{Term}
 use Rattle.units.specs.declared.Check.{Check}
-use Rattle.quorum.specs.Voters.{no_voters, made as madeSet, set_of, voters_check}
+use Rattle.quorum.specs.Voters.{no_voters, made as made_set, set_of, voters_check}
 use Rattle.rules.specs.Majority.{falling}
 use Rattle.quorum.specs.Votes.{joint_result}
 use Rattle.quorum.specs.Half.{half_index, joined, numbers_result}
@@ -111,7 +111,7 @@ copy_at to at from = one_answer
 pub voters_empty : OneAnswer (◌≡ no_voters)
 voters_empty = one_answer
 
-pub voters_new : (ids : List ℕ) → OneAnswer (◌≡ madeSet ids)
+pub voters_new : (ids : List ℕ) → OneAnswer (◌≡ made_set ids)
 voters_new ids = one_answer
 
 pub voters_holding : (ids : List ℕ) → OneAnswer (◌≡ set_of ids)
@@ -368,7 +368,7 @@ module _ (log : Log) (settled pending : List ℕ) (term : Term) where
   pub leader_commit_found : (found : Committed) → OneAnswer (◌≡ commit_found log settled pending term.0 found)
   leader_commit_found found = one_answer
 
--- ---- exports: the static library over words
+-- ---- exports: every call over words
 
 pub words_log_new : (start startterm last : ℕ) (settled pending log : List ℕ) → OneOutcome (λ r log'. leaves r (log' ∷ []) ≡ new_log_leaves start startterm last settled log)
 words_log_new start startterm last settled pending log = one_slice
