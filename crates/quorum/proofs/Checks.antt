@@ -6,6 +6,8 @@ use mathlib.Core.Logic.{⊎_elim}
 use mathlib.Core.List.{List}
 use lib.Dec.{leb}
 use lib.ListN.{length, take}
+use mir.Val.{Val}
+use denote.Laws.{Is}
 use borrow.Author.Tests.{leb-true, le-leb, lt-leb}
 use Rattle.units.specs.declared.Check.{Check}
 use Rattle.units.specs.declared.Check.TheVariants as check
@@ -21,6 +23,8 @@ use Rattle.quorum.specs.declared.majority.Voters.{Voters}
 use Rattle.quorum.specs.declared.rows.Rows.{Rows}
 use Rattle.quorum.specs.declared.joint.JointConfig.{JointConfig}
 use Rattle.quorum.proofs.Front.{Front, front}
+use Rattle.quorum.proofs.Sizes.{row_ids_length, row_values_length}
+use Rattle.quorum.specs.contracts.rows.Rows as Ro
 use Rattle.quorum.proofs.Padded.{take-padded}
 
 -- Over the limit the ids don't matter; within it they alone do.
@@ -62,14 +66,14 @@ incoming_within c e = voters_within c.incoming ((both_fine (voters_check c.incom
 pub outgoing_within : (c : JointConfig) → config_check c ≡ check.Fine → c.outgoing.count ≤ voter_limit
 outgoing_within c e = voters_within c.outgoing ((both_fine (voters_check c.incoming) (voters_check c.outgoing)).0 e).1
 
--- A question over gathered rows r whose check is passed: k is the check of its voters, and the rows' arrays have a place for each row up to the limit.
+-- A question over gathered rows r whose check is passed: k is the check of its voters, and the rows are owned.
 pub record Passed (k : Check) (r : Rows) : Type 0 where
   pub fine : both_checks k (plain_check r) ≡ check.Fine
-  pub ids_sized : length r.ids ≡ row_limit
-  pub values_sized : length r.values ≡ row_limit
+  pub words : List Val
+  pub owned : Is Ro.the_row r words
 
-pub passes : {k told : Check} {r : Rows} → told ≡ both_checks k (plain_check r) → told ≡ check.Fine → length r.ids ≡ row_limit → length r.values ≡ row_limit → Passed k r
-passes made fine ids_sized values_sized = record { fine = sym made ∙ fine; ids_sized = ids_sized; values_sized = values_sized }
+pub passes : {k told : Check} {r : Rows} {vs : List Val} → told ≡ both_checks k (plain_check r) → told ≡ check.Fine → Is Ro.the_row r vs → Passed k r
+passes {vs = vs} made fine owned = record { fine = sym made ∙ fine; words = vs; owned = owned }
 
 module _ {k : Check} {r : Rows} (p : Passed k r) where
   pub voters_fine : k ≡ check.Fine
@@ -80,10 +84,10 @@ module _ {k : Check} {r : Rows} (p : Passed k r) where
 
   -- the rows' arrays hold what they count
   pub ids_front : Front r.ids r.count
-  ids_front = front r.ids r.count p.ids_sized few
+  ids_front = front r.ids r.count (row_ids_length r p.owned) few
 
   pub values_front : Front r.values r.count
-  values_front = front r.values r.count p.values_sized few
+  values_front = front r.values r.count (row_values_length r p.owned) few
 
 -- A set of ids is checked as the ids are.
 pub set_check_lem : (ids : List ℕ) → voters_check (set_of ids) ≡ fine_if (few_distinct (length ids) voter_limit ids)
