@@ -1,22 +1,20 @@
 // The leader's commit step: of log A it commits only records of the leader's own term, and the log is looked at before the configuration.
 use crate::log::{later, log_a, pending_a, settled_a};
-use crate::print::{number, refusal, text};
+use crate::print::{refusal, text};
 use crate::quorums::{acking, half_broken, voters};
 use leader::commit_found;
 use peer_tables::joint::committed_index;
 use quorum::joint::JointConfig;
-use raft_log::{Decided, Log};
+use raft_log::Log;
 use std::io;
 use units::Term;
+use units::refusal::Refusal;
 
-fn decided(rt: &impl Print, answer: Decided) -> io::Result<()> {
+fn decided(rt: &impl Print, answer: Result<Option<Log>, Refusal>) -> io::Result<()> {
     match answer {
-        Decided::Yes(log) => {
-            number(rt, "yes, committed ", log.committed.0)?;
-            text(rt, "\n")
-        }
-        Decided::No => text(rt, "no\n"),
-        Decided::Refused(n) => refusal(rt, n),
+        Ok(Some(log)) => println!(rt; "yes, committed {}", log.committed.0),
+        Ok(None) => text(rt, "no\n"),
+        Err(r) => refusal(rt, r),
     }
 }
 

@@ -1,7 +1,8 @@
 // Document 01's cases on the log: each begins from log A.
 use crate::print::{number, numbers, refusal, text};
-use raft_log::{Appended, ByTerm, Log, Looked, Placed};
+use raft_log::{Appended, Log};
 use std::io;
+use units::refusal::Refusal;
 use units::{Index, Term};
 
 // Log A, in the document's words. It names no bodies; these are those of the table `DocumentCases`.
@@ -48,19 +49,16 @@ pub fn pending_a() -> [u64; 8] {
 
 fn term_case(rt: &impl Print, i: u64) -> io::Result<()> {
     match log_a().term(&settled_a(), &pending_a(), Index(i)) {
-        Looked::At(term) => {
-            number(rt, "", term.0)?;
-            text(rt, "\n")
-        }
-        Looked::Refused(n) => refusal(rt, n),
+        Ok(term) => println!(rt; "{}", term.0),
+        Err(r) => refusal(rt, r),
     }
 }
 
 // Pending ends at the log's last index.
-fn last(rt: &impl Print, answer: Placed) -> io::Result<()> {
+fn last(rt: &impl Print, answer: Result<Index, Refusal>) -> io::Result<()> {
     match answer {
-        Placed::At(index) => number(rt, " to ", index.0),
-        Placed::Refused(n) => number(rt, " to refusal ", n),
+        Ok(index) => number(rt, " to ", index.0),
+        Err(r) => number(rt, " to refusal ", r.number()),
     }
 }
 
@@ -86,32 +84,25 @@ fn append_case(rt: &impl Print, idx: u64, term: u64, commit: u64, run: &[u64]) -
         Index(commit),
         run,
     ) {
-        Appended::Done {
-            conflict,
-            last,
-            log,
-        } => {
-            number(rt, "(", conflict.0)?;
-            number(rt, ", ", last.0)?;
-            text(rt, ")")?;
+        Ok(
+            Appended {
+                conflict,
+                last,
+                log,
+            },
+        ) => {
+            print!(rt; "({}, {})", conflict.0, last.0)?;
             after(rt, log, &pending)
         }
-        Appended::Refused(n) => refusal(rt, n),
+        Err(r) => refusal(rt, r),
     }
 }
 
-fn found(rt: &impl Print, answer: ByTerm) -> io::Result<()> {
+fn found(rt: &impl Print, answer: Result<(Index, Option<Term>), Refusal>) -> io::Result<()> {
     match answer {
-        ByTerm::Found { index, term } => {
-            number(rt, "(", index.0)?;
-            number(rt, ",", term.0)?;
-            text(rt, ")\n")
-        }
-        ByTerm::Beyond(index) => {
-            number(rt, "", index.0)?;
-            text(rt, ", none\n")
-        }
-        ByTerm::Refused(n) => refusal(rt, n),
+        Ok((index, Some(term))) => println!(rt; "({},{})", index.0, term.0),
+        Ok((index, None)) => println!(rt; "{}, none", index.0),
+        Err(r) => refusal(rt, r),
     }
 }
 

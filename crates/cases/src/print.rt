@@ -1,5 +1,6 @@
 // A line of standard output, piece by piece.
 use std::io;
+use units::refusal::Refusal;
 
 pub fn text(rt: &impl Print, words: &str) -> io::Result<()> {
     rt.print(words)
@@ -26,7 +27,6 @@ pub fn numbers(rt: &impl Print, list: &[u64]) -> io::Result<()> {
 }
 
 // A refusal is the whole answer, so it ends the line.
-pub fn refusal(rt: &impl Print, n: u64) -> io::Result<()> {
-    number(rt, "refusal ", n)?;
-    text(rt, "\n")
+pub fn refusal(rt: &impl Print, refusal: Refusal) -> io::Result<()> {
+    println!(rt; "refusal {}", refusal.number())
 }

@@ -1,117 +1,88 @@
 // Document 01's cases on the quorums, and further ones: nobody to ask, the calls on a configuration, and refusal 12.
-use crate::print::{number, numbers, refusal, text};
+use crate::print::{numbers, refusal, text};
 use peer_tables::{Table, joint, majority};
+use quorum::VoteResult;
 use quorum::joint::{Ids, JointConfig};
 use quorum::majority::Voters;
-use quorum::rows::{Ack, Peer, Question, Rows, Vote};
-use quorum::{Committed, Verdict, VoteResult};
+use quorum::rows::{Peer, Rows};
 use std::io;
-use units::{Check, Index, YesOrNo};
+use units::Index;
+use units::refusal::Refusal;
 
-fn committed(rt: &impl Print, answer: Committed) -> io::Result<()> {
+fn committed(rt: &impl Print, answer: Result<(Index, bool), Refusal>) -> io::Result<()> {
     match answer {
-        Committed::At(index, free) => {
-            number(rt, "", index.0)?;
-            if free {
-                text(rt, " (nobody to ask)")?;
-            }
-            text(rt, "\n")
-        }
-        Committed::Refused(n) => refusal(rt, n),
+        Ok((index, false)) => println!(rt; "{}", index.0),
+        Ok((index, true)) => println!(rt; "{} (nobody to ask)", index.0),
+        Err(r) => refusal(rt, r),
     }
 }
 
-fn verdict(rt: &impl Print, answer: Verdict) -> io::Result<()> {
+fn verdict(rt: &impl Print, answer: Result<VoteResult, Refusal>) -> io::Result<()> {
     match answer {
-        Verdict::Stands(result) => match result {
-            VoteResult::Pending => text(rt, "Pending\n"),
-            VoteResult::Lost => text(rt, "Lost\n"),
-            VoteResult::Won => text(rt, "Won\n"),
-        },
-        Verdict::Refused(n) => refusal(rt, n),
+        Ok(result) => println!(rt; "{result:?}"),
+        Err(r) => refusal(rt, r),
     }
 }
 
-fn told(rt: &impl Print, answer: YesOrNo) -> io::Result<()> {
+fn told(rt: &impl Print, answer: Result<bool, Refusal>) -> io::Result<()> {
     match answer {
-        YesOrNo::Is(b) => {
-            if b {
-                text(rt, "yes\n")
-            } else {
-                text(rt, "no\n")
-            }
-        }
-        YesOrNo::Refused(n) => refusal(rt, n),
+        Ok(true) => text(rt, "yes\n"),
+        Ok(false) => text(rt, "no\n"),
+        Err(r) => refusal(rt, r),
     }
 }
 
-// So many of a list, from its front.
-fn first(list: &[u64], count: usize) -> &[u64] {
-    if count < list.len() {
-        return &list[0..count];
+fn ids(rt: &impl Print, answer: Result<Ids, Refusal>) -> io::Result<()> {
+    match answer {
+        Ok(list) => listed(rt, list.ids.get(..list.count).unwrap_or(&list.ids)),
+        Err(r) => refusal(rt, r),
     }
-    list
 }
 
-fn ids(rt: &impl Print, list: Ids) -> io::Result<()> {
-    let check = list.check;
-    let Check::Fine = check else {
-        return refusal(rt, check.refusal());
-    };
-    if list.count == 0 {
+fn listed(rt: &impl Print, ids: &[u64]) -> io::Result<()> {
+    if ids.is_empty() {
         return text(rt, "none\n");
     }
-    let words = list.ids;
-    numbers(rt, first(&words, list.count))?;
+    numbers(rt, ids)?;
     text(rt, "\n")
 }
 
-// A vote as a number.
-const YES: u64 = 1;
-
-const NO: u64 = 0;
-
-// The row of an id that says this: an acknowledgement, or a vote.
-fn saying(question: Question, id: u64, said: u64) -> Peer {
-    match question {
-        Question::Index => Peer {
-            id,
-            ack: Ack::At(Index(said)),
-            vote: Vote::Missing,
-        },
-        Question::Vote => Peer {
-            id,
-            ack: Ack::Missing,
-            vote: vote(said),
-        },
-    }
-}
-
-fn vote(said: u64) -> Vote {
-    if said == YES { Vote::Yes } else { Vote::No }
-}
-
-// Rows that say these things, whose ids are 1, 2, 3 and so on.
-fn table(question: Question, said: &[u64]) -> Table {
+// The rows of ids 1, 2, 3 and so on, one for each thing said.
+fn table<T: Copy, F: Fn(u64, T) -> Peer>(said: &[T], row: F) -> Table
+    requires { F.IsAlwaysCallable row }
+{
     let mut table = Table::empty();
-    for (i, word) in said.iter().enumerate() {
-        table = table.with(saying(question, i as u64 + 1, *word));
+    for (i, one) in said.iter().enumerate() {
+        table = table.with(row(i as u64 + 1, *one));
     }
     table
 }
 
 pub fn acking(acks: &[u64]) -> Table {
-    table(Question::Index, acks)
+    table(
+        acks,
+        |id, ack| Peer {
+            id,
+            ack: Some(Index(ack)),
+            vote: None,
+        },
+    )
 }
 
-fn voting(votes: &[u64]) -> Table {
-    table(Question::Vote, votes)
+fn voting(votes: &[bool]) -> Table {
+    table(
+        votes,
+        |id, yes| Peer {
+            id,
+            ack: None,
+            vote: Some(yes),
+        },
+    )
 }
 
-// The set of these ids.
+// The set of these ids, the empty one where they are refused.
 pub fn voters(ids: &[u64]) -> Voters {
-    let made = Voters::new(ids);
-    made.set
+    Voters::new(ids).unwrap_or(Voters::empty())
 }
 
 fn both(incoming: &[u64], outgoing: &[u64]) -> JointConfig {
@@ -161,12 +132,12 @@ pub fn vote_cases(rt: &impl Print) -> io::Result<()> {
     text(rt, "P  four voters, two yes, one no: ")?;
     verdict(
         rt,
-        majority::vote_result(voters(&[1, 2, 3, 4]), voting(&[YES, YES, NO])),
+        majority::vote_result(voters(&[1, 2, 3, 4]), voting(&[true, true, false])),
     )?;
     text(rt, "P  four voters, two yes, two no: ")?;
     verdict(
         rt,
-        majority::vote_result(voters(&[1, 2, 3, 4]), voting(&[YES, YES, NO, NO])),
+        majority::vote_result(voters(&[1, 2, 3, 4]), voting(&[true, true, false, false])),
     )
 }
 
@@ -176,21 +147,21 @@ fn answer_cases(rt: &impl Print) -> io::Result<()> {
     text(rt, "   four voters, three yes: ")?;
     verdict(
         rt,
-        majority::vote_result(voters(&[1, 2, 3, 4]), voting(&[YES, YES, YES])),
+        majority::vote_result(voters(&[1, 2, 3, 4]), voting(&[true, true, true])),
     )?;
     text(rt, "   votes of no voters: ")?;
-    verdict(rt, majority::vote_result(Voters::empty(), voting(&[NO])))?;
+    verdict(rt, majority::vote_result(Voters::empty(), voting(&[false])))?;
     text(rt, "   joint of two empty halves: ")?;
     committed(rt, joint::committed_index(both(&[], &[]), acking(&[])))?;
     text(rt, "   won in one half, pending in the other: ")?;
     verdict(
         rt,
-        joint::vote_result(both(&[1], &[2, 3]), voting(&[YES, YES])),
+        joint::vote_result(both(&[1], &[2, 3]), voting(&[true, true])),
     )?;
     text(rt, "   won in one half, lost in the other: ")?;
     verdict(
         rt,
-        joint::vote_result(both(&[1], &[2, 3]), voting(&[YES, NO])),
+        joint::vote_result(both(&[1], &[2, 3]), voting(&[true, false])),
     )
 }
 
@@ -221,16 +192,17 @@ pub fn half_broken() -> JointConfig {
 fn repeated_row() -> Table {
     let row = Peer {
         id: 9,
-        ack: Ack::Missing,
-        vote: Vote::Missing,
+        ack: None,
+        vote: None,
     };
     Table::empty().with(row).with(row)
 }
 
 fn constructed(rt: &impl Print, ids: &[u64]) -> io::Result<()> {
-    let made = Voters::new(ids);
-    let check = made.check;
-    refusal(rt, check.refusal())
+    match Voters::new(ids) {
+        Ok(_) => text(rt, "a set\n"),
+        Err(r) => refusal(rt, r),
+    }
 }
 
 fn refusal_cases(rt: &impl Print) -> io::Result<()> {
@@ -246,7 +218,7 @@ fn refusal_cases(rt: &impl Print) -> io::Result<()> {
     text(rt, "   a repeated voter: ")?;
     verdict(
         rt,
-        majority::vote_result(Voters::holding(&[1, 1]), voting(&[YES])),
+        majority::vote_result(Voters::holding(&[1, 1]), voting(&[true])),
     )?;
     text(rt, "   a repeated voter in the outgoing half: ")?;
     committed(rt, joint::committed_index(half_broken(), acking(&[1])))?;

@@ -8,7 +8,9 @@ use native.Mathlib.Omega.{arith}
 use lib.Dec.{eqb, leb, ltb}
 use lib.ListN.{length, take, drop}
 use borrow.Author.Tests.{ltb-true, ltb-false, leb-false, not-false}
-use Rattle.units.specs.Refusals.{broken_state}
+use Rattle.std.specs.Prelude.{Ok, Err}
+use Rattle.units.specs.Refusals.{Answer, number_of}
+use Rattle.units.specs.declared.refusal.Refusal.TheVariants as refusal
 use Rattle.units.proofs.Cond.{either_end}
 use Rattle.raft_log.specs.declared.Log.{Log}
 use Rattle.raft_log.specs.declared.Bounds.{Bounds}
@@ -21,13 +23,13 @@ use Rattle.raft_log.proofs.Slices.{next_true, part_some}
 use Rattle.exports.specs.Words.{part_length, log_from, put, leaves, reading, log_length}
 use Rattle.exports.specs.Reads.{part_words, in_settled, in_pending, bounds_leaves, slice_leaves, entries_leaves, next_entries_since_leaves, StoreHolds, NamesHeld}
 use Rattle.exports.specs.Results.{Named, Names}
-use Rattle.exports.proofs.Lengths.{by_length}
+use Rattle.exports.proofs.Lengths.{by_length, nonzero}
 use Rattle.exports.proofs.ReadBack.{put_splits}
 
 -- ---- What the three calls answer is sound
 
 module _ (l : Log) (settled pending : List ℕ) where
-  abbrev Fair : Bounds → Type 0
+  abbrev Fair : Answer Bounds → Type 0
   Fair said = NamesHeld said l settled pending
 
   module _ (good : Good l settled pending) (low high : ℕ) where
@@ -47,13 +49,13 @@ module _ (l : Log) (settled pending : List ℕ) where
     in_range : Fair (slice_in l low high)
     unfolding slice_in
     in_range =
-        either_end Fair (ltb high low) (λ _ z. omega arith)
-        (λ a. either_end Fair (leb low l.start.0) (λ _ z. omega arith)
-        (λ b. either_end Fair (ltb (last_of l + 1) high) (λ _ z. omega arith)
+        either_end Fair (ltb high low) (λ _. tt)
+        (λ a. either_end Fair (leb low l.start.0) (λ _. tt)
+        (λ b. either_end Fair (ltb (last_of l + 1) high) (λ _. tt)
         (λ d. in_store_lem (leb-false low l.start.0 b) (ltb-false high low a) (ltb-false (last_of l + 1) high d))))
 
-  unless_broken : (said : Bounds) → (Good l settled pending → Fair said) → Fair (cond (broken l settled pending) (bounds.Refused broken_state) said)
-  unless_broken said fair = either_end Fair (broken l settled pending) (λ _ z. omega arith) (λ b. fair (ok_good l settled pending (not-false _ b)))
+  unless_broken : (said : Answer Bounds) → (Good l settled pending → Fair said) → Fair (cond (broken l settled pending) (Err refusal.BrokenState) said)
+  unless_broken said fair = either_end Fair (broken l settled pending) (λ _. tt) (λ b. fair (ok_good l settled pending (not-false _ b)))
 
   pub slice_sound : (low high : ℕ) → Fair (slice_bounds l settled pending low high)
   unfolding slice_bounds
@@ -88,23 +90,23 @@ module _ (log settled pending answer : List ℕ) where
   l = log_from log
 
   module _ (long : part_length ≤ length answer) where
-    read : (said : Bounds) (words : List ℕ) → length words ≡ part_length → Named said l settled pending (words ++ drop (length words) answer) → Named said l settled pending (put answer words)
+    read : (said : Answer Bounds) (words : List ℕ) → length words ≡ part_length → Named said l settled pending (words ++ drop (length words) answer) → Named said l settled pending (put answer words)
     read said words five named = subst (Named said l settled pending) (sym (put_splits answer words (omega arith))) named
 
-    answer_names : (said : Bounds) → NamesHeld said l settled pending → Names l settled pending said (bounds_leaves said l answer)
+    answer_names : (said : Answer Bounds) → NamesHeld said l settled pending → Names l settled pending said (bounds_leaves said l answer)
     unfolding part_of
-    answer_names bounds.Empty sound z = read bounds.Empty (0 ∷ 0 ∷ 0 ∷ 0 ∷ 0 ∷ []) refl (record { part = refl; inside = omega arith })
-    answer_names (bounds.Settled low high) held z =
-        read (bounds.Settled low high) (part_words in_settled (l.start.0 + 1) low.0 high.0) refl
+    answer_names (Ok bounds.Empty) sound z = read (Ok bounds.Empty) (0 ∷ 0 ∷ 0 ∷ 0 ∷ 0 ∷ []) refl (record { part = refl; inside = omega arith })
+    answer_names (Ok (bounds.Settled low high)) held z =
+        read (Ok (bounds.Settled low high)) (part_words in_settled (l.start.0 + 1) low.0 high.0) refl
         (record { part = held_part settled _ _ _ held; inside = held_inside settled _ _ _ held })
-    answer_names (bounds.Pending low high) held z =
-        read (bounds.Pending low high) (part_words in_pending l.offset.0 low.0 high.0) refl
+    answer_names (Ok (bounds.Pending low high)) held z =
+        read (Ok (bounds.Pending low high)) (part_words in_pending l.offset.0 low.0 high.0) refl
         (record { part = held_part pending _ _ _ held; inside = held_inside pending _ _ _ held })
-    answer_names (bounds.Refused number) sound z = absurd (sound z)
+    answer_names (Err r) sound z = let over = nonzero r in absurd (omega arith)
 
-  reading_names : (said : Bounds) → NamesHeld said l settled pending → Names l settled pending said (reading log log_length part_length answer (bounds_leaves said l answer))
+  reading_names : (said : Answer Bounds) → NamesHeld said l settled pending → Names l settled pending said (reading log log_length part_length answer (bounds_leaves said l answer))
   reading_names said sound =
-      let refused : Names l settled pending said (leaves broken_state (answer ∷ [])) = λ z. absurd (omega arith) in
+      let refused : Names l settled pending said (leaves (number_of refusal.BrokenState) (answer ∷ [])) = λ z. absurd (omega arith) in
       by_length _ _ _ _ (Names l settled pending said) refused (λ _. by_length _ _ _ _ (Names l settled pending said) refused (λ long. answer_names long said sound))
 
   -- THE LAWS, one a call.

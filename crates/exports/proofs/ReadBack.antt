@@ -8,10 +8,9 @@ use lib.ListN.{length, drop}
 use lib.Seq.{sets-eq}
 use Rattle.raft_log.specs.declared.Log.{Log}
 use Rattle.inflights.specs.declared.Inflights.{Inflights}
-use Rattle.inflights.specs.declared.Deferred.{Deferred}
-use Rattle.inflights.specs.declared.Deferred.TheVariants.{Nothing, Cap}
 use Rattle.exports.specs.Words.{log_length, window_length, log_from, log_words, put}
 use Rattle.exports.specs.WindowCalls.{deferred_from, is_deferred, deferred_cap, window_from, window_words}
+use Rattle.std.specs.Prelude.{Some, None, Option}
 
 -- A slice with its first words replaced is these words, and then its own from there on.
 pub put_splits : (slice words : List ℕ) → length words ≤ length slice → put slice words ≡ words ++ drop (length words) slice
@@ -23,10 +22,10 @@ unfolding log_from
 log_back slice l h = ap log_from (put_splits slice (log_words l) h)
 
 -- The two words of a deferred cap say what it is.
-deferred_back : (d : Deferred) → deferred_from (is_deferred d) (deferred_cap d) ≡ d
+deferred_back : (d : Option ℕ) → deferred_from (is_deferred d) (deferred_cap d) ≡ d
 unfolding deferred_from
-deferred_back Nothing = refl
-deferred_back (Cap c) = refl
+deferred_back None = refl
+deferred_back (Some c) = refl
 
 -- The words of a window say what it is, whatever stands behind them.
 words_back : (w : Inflights) (rest : List ℕ) → window_from (window_words w ++ rest) ≡ w

@@ -1,25 +1,24 @@
 -- The exported calls of the log. A reader must know: each is the call of crate raft_log on the log whose state the slice `log` begins with; a slice too short for the state or for the values of the answer is refusal 1.
 -- The result is 0 or the refusal's number. A refusal leaves every slice as it was.
-use Rattle.std.specs.Prelude.{ℕ, true, false, List, [], ◌∷◌}
+use Rattle.std.specs.Prelude.{ℕ, true, false, Option, Some, None, List, [], ◌∷◌}
+use Rattle.units.specs.Refusals.{Answer}
+use Rattle.units.specs.declared.Index.{Index}
 use Rattle.raft_log.specs.Append.{maybe_append, maybe_append_store}
 use Rattle.raft_log.specs.Commit.{commit_to, applied_to, maybe_commit, maybe_persist}
 use Rattle.raft_log.specs.Extend.{append_run, append_run_store}
 use Rattle.raft_log.specs.Settle.{stable_entries, stable_entries_store}
 use Rattle.raft_log.specs.Setup.{new_log}
 use Rattle.raft_log.specs.declared.Appended.{Appended}
-use Rattle.raft_log.specs.declared.Appended.TheVariants as appended
-use Rattle.raft_log.specs.declared.Changed.{Changed}
-use Rattle.raft_log.specs.declared.Changed.TheVariants as changed
-use Rattle.raft_log.specs.declared.Decided.{Decided}
-use Rattle.raft_log.specs.declared.Decided.TheVariants as decided
-use Rattle.raft_log.specs.declared.Extended.{Extended}
-use Rattle.raft_log.specs.declared.Extended.TheVariants as extended
-use Rattle.exports.specs.Words.{log_length, single_length, pair_length, log_from, log_words, flag_word, put, Outcome, leaves, with_store, unless_short}
+use Rattle.raft_log.specs.declared.Log.{Log}
+use Rattle.exports.specs.Words.{log_length, single_length, pair_length, log_from, log_words, flag_word, put, Outcome, answer_leaves, values_leave, with_store, unless_short}
 
--- What an answer of `maybe_append` leaves of `log` and `answer`: the state after it, and the values conflict, last: "conflict and idx + count". A refusal "changes nothing".
-abbrev pub appended_leaves : Appended → List ℕ → List ℕ → Outcome
-appended_leaves (appended.Done conflict last l) log answer = leaves 0 (put log (log_words l) ∷ put answer (conflict.0 ∷ last.0 ∷ []) ∷ [])
-appended_leaves (appended.Refused number) log answer = leaves number (log ∷ answer ∷ [])
+-- Into `log` goes the state after it, and into `answer` conflict and last: "conflict and idx + count".
+abbrev pub appended_writes : List ℕ → List ℕ → Appended → List (List ℕ)
+appended_writes log answer a = put log (log_words a.log) ∷ put answer (a.conflict.0 ∷ a.last.0 ∷ []) ∷ []
+
+-- What an answer of `maybe_append` leaves of `log` and `answer`: that.
+abbrev pub appended_leaves : Answer Appended → List ℕ → List ℕ → Outcome
+appended_leaves said log answer = answer_leaves (appended_writes log answer) said (log ∷ answer ∷ [])
 
 -- THE PROMISE of `log_maybe_append`: what it leaves of `pending`, `log` and `answer`. 01's sentences stand in raft_log/specs/Append.antt.
 abbrev pub maybe_append_leaves : List ℕ → List ℕ → List ℕ → ℕ → ℕ → ℕ → List ℕ → List ℕ → Outcome
@@ -32,21 +31,26 @@ maybe_append_leaves log settled pending idx term commit run answer =
 
 -- ---- The other calls that write
 
--- What an answer of `append` leaves of `log` and `answer`: the state after it, and "the new last". A refusal "changes nothing".
-abbrev pub extended_leaves : Extended → List ℕ → List ℕ → Outcome
-extended_leaves (extended.Last last l) log answer = leaves 0 (put log (log_words l) ∷ put answer (last.0 ∷ []) ∷ [])
-extended_leaves (extended.Refused number) log answer = leaves number (log ∷ answer ∷ [])
+-- Into `log` goes the state after it, and into `answer` "the new last".
+abbrev pub extended_writes : List ℕ → List ℕ → Index × Log → List (List ℕ)
+extended_writes log answer (last, after) = put log (log_words after) ∷ put answer (last.0 ∷ []) ∷ []
 
--- What an answer without values leaves of `log`: the state after it. A refusal "changes nothing".
-abbrev pub changed_leaves : Changed → List ℕ → Outcome
-changed_leaves (changed.Now l) log = leaves 0 (put log (log_words l) ∷ [])
-changed_leaves (changed.Refused number) log = leaves number (log ∷ [])
+-- What an answer of `append` leaves of `log` and `answer`: that.
+abbrev pub extended_leaves : Answer (Index × Log) → List ℕ → List ℕ → Outcome
+extended_leaves said log answer = answer_leaves (extended_writes log answer) said (log ∷ answer ∷ [])
 
--- What an answer yes or no leaves of `log` and `answer`: a yes and the state after it, or a no and the state as it was. A refusal "changes nothing".
-abbrev pub decided_leaves : Decided → List ℕ → List ℕ → Outcome
-decided_leaves (decided.Yes l) log answer = leaves 0 (put log (log_words l) ∷ put answer (flag_word true ∷ []) ∷ [])
-decided_leaves decided.No log answer = leaves 0 (log ∷ put answer (flag_word false ∷ []) ∷ [])
-decided_leaves (decided.Refused number) log answer = leaves number (log ∷ answer ∷ [])
+-- What an answer without values leaves of `log`: the state after it.
+abbrev pub changed_leaves : Answer Log → List ℕ → Outcome
+changed_leaves = values_leave log_words
+
+-- Into `log` goes the state after a yes, while a no leaves it as it was; and into `answer` goes yes or no.
+abbrev pub decided_writes : List ℕ → List ℕ → Option Log → List (List ℕ)
+decided_writes log answer (Some l) = put log (log_words l) ∷ put answer (flag_word true ∷ []) ∷ []
+decided_writes log answer None = log ∷ put answer (flag_word false ∷ []) ∷ []
+
+-- What an answer yes or no leaves of `log` and `answer`: that.
+abbrev pub decided_leaves : Answer (Option Log) → List ℕ → List ℕ → Outcome
+decided_leaves said log answer = answer_leaves (decided_writes log answer) said (log ∷ answer ∷ [])
 
 -- THE PROMISE of `log_new`: what it leaves of `log`, whose words it does not read: "committed = applied = start, persisted = last, offset = last + 1". "any pending store will do" (open points).
 abbrev pub new_log_leaves : ℕ → ℕ → ℕ → List ℕ → List ℕ → Outcome

@@ -1,23 +1,18 @@
 -- The exported questions of crate quorum, and the leader's commit step. A reader must know: each is the call below on the sets and rows that the words say (specs/Rows.antt), and hands its refusal on; a slice too short for the answer, or for a log's state, is refusal 1 and comes first. The three checks write nothing, so that their result is all that they promise.
 -- 12 needs no word of its own: a set of over 7 or repeated ids, and over 64 or repeated rows, are refused by the call below.
-use Rattle.std.specs.Prelude.{ℕ, List, [], ◌∷◌}
-use Rattle.units.specs.Refusals.{refusal_of}
-use Rattle.units.specs.declared.Check.{Check}
-use Rattle.units.specs.declared.Check.TheVariants as check
+use Rattle.std.specs.Prelude.{ℕ, Bool, List, [], ◌∷◌}
+use Rattle.units.specs.Refusals.{Answer, refusal_of}
+use Rattle.units.specs.declared.Index.{Index}
 use Rattle.quorum.specs.Rows.{rows_check}
 use Rattle.quorum.specs.Voters.{set_of, no_voters, voters_check}
 use Rattle.quorum.specs.Majority.{committed_index, vote_result}
 use Rattle.quorum.specs.Joint.{one_set, config_check, joint_committed_index, joint_vote_result, is_singleton, contains_of, joint_ids}
-use Rattle.quorum.specs.declared.Committed.{Committed}
-use Rattle.quorum.specs.declared.Committed.TheVariants as committed
-use Rattle.quorum.specs.declared.Verdict.{Verdict}
-use Rattle.quorum.specs.declared.Verdict.TheVariants as verdict
 use Rattle.quorum.specs.declared.VoteResult.{VoteResult}
 use Rattle.quorum.specs.declared.VoteResult.TheVariants as result
 use Rattle.quorum.specs.declared.joint.Ids.{Ids}
 use Rattle.quorum.specs.declared.joint.JointConfig.{JointConfig}
 use Rattle.leader.specs.Leader.{leader_commit}
-use Rattle.exports.specs.Words.{log_length, single_length, pair_length, ids_length, log_from, flag_word, put, Outcome, leaves, yes_or_no_leaves, unless_short}
+use Rattle.exports.specs.Words.{log_length, single_length, pair_length, ids_length, log_from, flag_word, put, Outcome, leaves, values_leave, yes_or_no_leaves, unless_short}
 use Rattle.exports.specs.LogCalls.{decided_leaves}
 use Rattle.exports.specs.Rows.{peers_from, config_from}
 
@@ -27,28 +22,29 @@ result_word result.Pending = 0
 result_word result.Lost = 1
 result_word result.Won = 2
 
--- What an answer with an index leaves of `answer`: the index, and whether nobody had a say in it, "(index, false)" or "(u64::MAX, true)"; or the refusal's number as the result. "Every refusal returns its number alone and changes nothing."
-abbrev pub committed_leaves : Committed → List ℕ → Outcome
-committed_leaves (committed.At index free) values = leaves 0 (put values (index.0 ∷ flag_word free ∷ []) ∷ [])
-committed_leaves (committed.Refused number) values = leaves number (values ∷ [])
+-- The values of an index, and of whether nobody had a say in it: "(index, false)" or "(u64::MAX, true)".
+abbrev pub committed_words : Index × Bool → List ℕ
+committed_words (index, free) = index.0 ∷ flag_word free ∷ []
 
--- What the answer of a vote leaves of `answer`: how the vote stands, or the refusal likewise.
-abbrev pub verdict_leaves : Verdict → List ℕ → Outcome
-verdict_leaves (verdict.Stands r) values = leaves 0 (put values (result_word r ∷ []) ∷ [])
-verdict_leaves (verdict.Refused number) values = leaves number (values ∷ [])
+-- What an answer with an index leaves of `answer`: these.
+abbrev pub committed_leaves : Answer (Index × Bool) → List ℕ → Outcome
+committed_leaves = values_leave committed_words
 
--- What a list of ids, "each once", leaves of `answer`: how many ids, then all the words of their list, which are 0 behind the last id; or the refusal likewise.
-abbrev pub listed_leaves : Check → ℕ → List ℕ → List ℕ → Outcome
-listed_leaves check.Fine count ids values = leaves 0 (put values (count ∷ ids) ∷ [])
-listed_leaves (check.Refused number) count ids values = leaves number (values ∷ [])
+-- What the answer of a vote leaves of `answer`: how the vote stands.
+abbrev pub verdict_leaves : Answer VoteResult → List ℕ → Outcome
+verdict_leaves = values_leave (λ r. result_word r ∷ [])
 
--- What the answer of `ids` leaves of `answer`: that.
-abbrev pub ids_leaves : Ids → List ℕ → Outcome
-ids_leaves said values = listed_leaves said.check said.count said.ids values
+-- What the answer of `ids`, "each once", leaves of `answer`: how many ids, then all the words of their list, which are 0 behind the last id.
+abbrev pub ids_leaves : Answer Ids → List ℕ → Outcome
+ids_leaves = values_leave (λ said. said.count ∷ said.ids)
 
--- What the sizes of a configuration leave of `answer`: how many ids it has incoming, and how many outgoing. For `clear`.
+-- The sizes of a configuration: how many ids it has incoming, and how many outgoing. For `clear`.
+abbrev pub sizes_words : JointConfig → List ℕ
+sizes_words config = config.incoming.count ∷ config.outgoing.count ∷ []
+
+-- What they leave of `answer`.
 abbrev pub sizes_leaves : JointConfig → List ℕ → Outcome
-sizes_leaves config values = leaves 0 (put values (config.incoming.count ∷ config.outgoing.count ∷ []) ∷ [])
+sizes_leaves config values = leaves 0 (put values (sizes_words config) ∷ [])
 
 -- THE PROMISES of the questions: what each leaves of `answer`, here `values`. Of one set:
 module _ (voters rows values : List ℕ) where

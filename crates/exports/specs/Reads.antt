@@ -1,42 +1,37 @@
 -- The exported calls that only read the log. A reader must know: each is the call of crate raft_log on the log whose state the slice `log` begins with, and writes `answer` alone.
 -- The result is 0 or the refusal's number. A refusal leaves `answer` as it was.
-use Rattle.std.specs.Prelude.{ℕ, ◌+◌, ◌-◌, ◌*◌, ◌≤◌, ◌≡◌, true, false, cond, List, [], ◌∷◌, eqb, get_or, take, drop}
+use Rattle.std.specs.Prelude.{ℕ, ◌+◌, ◌-◌, ◌*◌, ◌≤◌, true, false, cond, Option, Some, None, Ok, Err, List, [], ◌∷◌, eqb, get_or, take, drop}
+use Rattle.units.specs.Refusals.{Answer}
+use Rattle.units.specs.declared.Index.{Index}
+use Rattle.units.specs.declared.Term.{Term}
 use Rattle.raft_log.specs.Words.{record_words, room}
 use Rattle.raft_log.specs.Look.{look_term, first_index, last_index, last_term, commit_info, is_up_to_date, find_conflict_by_term}
 use Rattle.raft_log.specs.Slice.{slice_bounds, entries_bounds, next_entries_bounds_since, has_next_entries_since}
 use Rattle.raft_log.specs.declared.Log.{Log}
-use Rattle.raft_log.specs.declared.Looked.{Looked}
-use Rattle.raft_log.specs.declared.Looked.TheVariants as looked
-use Rattle.raft_log.specs.declared.Placed.{Placed}
-use Rattle.raft_log.specs.declared.Placed.TheVariants as placed
-use Rattle.raft_log.specs.declared.Info.{Info}
-use Rattle.raft_log.specs.declared.Info.TheVariants as info
-use Rattle.raft_log.specs.declared.ByTerm.{ByTerm}
-use Rattle.raft_log.specs.declared.ByTerm.TheVariants as by_term
 use Rattle.raft_log.specs.declared.Bounds.{Bounds}
 use Rattle.raft_log.specs.declared.Bounds.TheVariants as bounds
-use Rattle.exports.specs.Words.{log_length, single_length, pair_length, triple_length, part_length, log_from, flag_word, put, Outcome, leaves, yes_or_no_leaves, reading}
+use Rattle.exports.specs.Words.{log_length, single_length, pair_length, triple_length, part_length, log_from, flag_word, Outcome, values_leave, yes_or_no_leaves, reading}
 
--- What an answer with a term leaves of `answer`: the term; or the refusal's number as the result. "Every refusal returns its number alone and changes nothing."
-abbrev pub looked_leaves : Looked → List ℕ → Outcome
-looked_leaves (looked.At term) answer = leaves 0 (put answer (term.0 ∷ []) ∷ [])
-looked_leaves (looked.Refused number) answer = leaves number (answer ∷ [])
+-- What an answer with a term leaves of `answer`: the term.
+abbrev pub looked_leaves : Answer Term → List ℕ → Outcome
+looked_leaves = values_leave (λ term. term.0 ∷ [])
 
--- What an answer with an index leaves of `answer`, or the refusal likewise.
-abbrev pub placed_leaves : Placed → List ℕ → Outcome
-placed_leaves (placed.At index) answer = leaves 0 (put answer (index.0 ∷ []) ∷ [])
-placed_leaves (placed.Refused number) answer = leaves number (answer ∷ [])
+-- What an answer with an index leaves of `answer`: the index.
+abbrev pub placed_leaves : Answer Index → List ℕ → Outcome
+placed_leaves = values_leave (λ index. index.0 ∷ [])
 
--- What an answer with an index and a term, "committed and its term", leaves of `answer`, or the refusal likewise.
-abbrev pub info_leaves : Info → List ℕ → Outcome
-info_leaves (info.At index term) answer = leaves 0 (put answer (index.0 ∷ term.0 ∷ []) ∷ [])
-info_leaves (info.Refused number) answer = leaves number (answer ∷ [])
+-- What an answer with an index and a term leaves of `answer`: "committed and its term".
+abbrev pub info_leaves : Answer (Index × Term) → List ℕ → Outcome
+info_leaves = values_leave (λ (index, term). index.0 ∷ term.0 ∷ [])
 
--- What the answer of `find_conflict_by_term` leaves of `answer`: the index, whether a term goes with it, the term. 01: "i with no term if i > last".
-abbrev pub by_term_leaves : ByTerm → List ℕ → Outcome
-by_term_leaves (by_term.Found index term) answer = leaves 0 (put answer (index.0 ∷ flag_word true ∷ term.0 ∷ []) ∷ [])
-by_term_leaves (by_term.Beyond index) answer = leaves 0 (put answer (index.0 ∷ flag_word false ∷ 0 ∷ []) ∷ [])
-by_term_leaves (by_term.Refused number) answer = leaves number (answer ∷ [])
+-- The values of an index, and of a term if there is one: the index, whether a term goes with it, the term. 01: "i with no term if i > last".
+abbrev pub by_term_words : Index × Option Term → List ℕ
+by_term_words (index, Some term) = index.0 ∷ flag_word true ∷ term.0 ∷ []
+by_term_words (index, None) = index.0 ∷ flag_word false ∷ 0 ∷ []
+
+-- What the answer of `find_conflict_by_term` leaves of `answer`: these.
+abbrev pub by_term_leaves : Answer (Index × Option Term) → List ℕ → Outcome
+by_term_leaves = values_leave by_term_words
 
 -- 01, `slice`: "A run is a part of whichever store holds it, settled or pending, never a copy." So an answer names the part: the store's number, the first index, the index after the last, the part's first word in the store, how many words.
 -- The store's first record is at index first. What a caller finds there is `part_of` (proofs/Parts.antt).
@@ -51,12 +46,15 @@ in_settled = 1
 abbrev pub in_pending : ℕ
 in_pending = 2
 
--- What bounds leave of `answer`. 01, "State and stores": "settled holds indices start+1 to offset-1, pending holds offset to last".
-abbrev pub bounds_leaves : Bounds → Log → List ℕ → Outcome
-bounds_leaves bounds.Empty l answer = leaves 0 (put answer (0 ∷ 0 ∷ 0 ∷ 0 ∷ 0 ∷ []) ∷ [])
-bounds_leaves (bounds.Settled low high) l answer = leaves 0 (put answer (part_words in_settled (l.start.0 + 1) low.0 high.0) ∷ [])
-bounds_leaves (bounds.Pending low high) l answer = leaves 0 (put answer (part_words in_pending l.offset.0 low.0 high.0) ∷ [])
-bounds_leaves (bounds.Refused number) l answer = leaves number (answer ∷ [])
+-- The values of bounds. 01, "State and stores": "settled holds indices start+1 to offset-1, pending holds offset to last".
+abbrev pub bounds_words : Log → Bounds → List ℕ
+bounds_words l bounds.Empty = 0 ∷ 0 ∷ 0 ∷ 0 ∷ 0 ∷ []
+bounds_words l (bounds.Settled low high) = part_words in_settled (l.start.0 + 1) low.0 high.0
+bounds_words l (bounds.Pending low high) = part_words in_pending l.offset.0 low.0 high.0
+
+-- What an answer with bounds leaves of `answer`: these.
+abbrev pub bounds_leaves : Answer Bounds → Log → List ℕ → Outcome
+bounds_leaves said l answer = values_leave (bounds_words l) said answer
 
 -- THE PROMISE of `log_term`: what it leaves of `answer`, "the record's term; the start's term at start; 0 outside [start, last]". So for the others below.
 abbrev pub term_leaves : List ℕ → List ℕ → List ℕ → ℕ → List ℕ → Outcome
@@ -116,9 +114,9 @@ pub record StoreHolds (store : List ℕ) (first low high : ℕ) : Type 0 where
   pub order : low ≤ high
   pub below : high - first ≤ room store
 
--- What is so of every answer of the three calls (proofs/Parts.antt): the store that it names "holds it", and 0 is no refusal's number.
-abbrev pub NamesHeld : Bounds → Log → List ℕ → List ℕ → Type 0
-NamesHeld bounds.Empty l settled pending = Unit {0}
-NamesHeld (bounds.Settled low high) l settled pending = StoreHolds settled (l.start.0 + 1) low.0 high.0
-NamesHeld (bounds.Pending low high) l settled pending = StoreHolds pending l.offset.0 low.0 high.0
-NamesHeld (bounds.Refused number) l settled pending = number ≡ 0 → ⊥
+-- What is so of every answer of the three calls (proofs/Parts.antt): the store that it names "holds it". A refusal names none.
+abbrev pub NamesHeld : Answer Bounds → Log → List ℕ → List ℕ → Type 0
+NamesHeld (Ok bounds.Empty) l settled pending = Unit {0}
+NamesHeld (Ok (bounds.Settled low high)) l settled pending = StoreHolds settled (l.start.0 + 1) low.0 high.0
+NamesHeld (Ok (bounds.Pending low high)) l settled pending = StoreHolds pending l.offset.0 low.0 high.0
+NamesHeld (Err r) l settled pending = Unit {0}

@@ -1,14 +1,11 @@
 -- Voters and peer rows as words. A reader must know: the words of a slice of voters are their ids, and four words of a slice of rows are a row.
 -- Nothing is judged here: too many or repeated ids (12) are refused by each question of crate quorum, by the set and the rows that the words say.
-use Rattle.std.specs.Prelude.{ℕ, ◌*◌, ◌/◌, ◌≡◌, cond, List, [], ◌∷◌, map, eqb, length}
+use Rattle.std.specs.Prelude.{ℕ, ◌*◌, ◌/◌, ◌≡◌, Bool, true, false, cond, Option, Some, None, List, [], ◌∷◌, map, eqb, length}
 use Rattle.units.specs.Units.{index_of}
+use Rattle.units.specs.declared.Index.{Index}
 use Rattle.quorum.specs.Rows.{id_of, row_of, value_for}
 use Rattle.quorum.specs.Voters.{set_of}
 use Rattle.quorum.specs.declared.joint.JointConfig.{JointConfig}
-use Rattle.quorum.specs.declared.rows.Ack.{Ack}
-use Rattle.quorum.specs.declared.rows.Ack.TheVariants as ack
-use Rattle.quorum.specs.declared.rows.Vote.{Vote}
-use Rattle.quorum.specs.declared.rows.Vote.TheVariants as vote
 use Rattle.quorum.specs.declared.rows.Peer.{Peer}
 use Rattle.quorum.specs.declared.rows.Question.{Question}
 
@@ -18,12 +15,12 @@ row_length = 4
 
 -- 01, "State and stores": "A peer row holds its acknowledgement as missing or a number, and its vote as missing, yes or no."
 -- A word 0 says that the acknowledgement is missing; the number is then not read.
-abbrev pub ack_from : ℕ → ℕ → Ack
-ack_from known index = cond (eqb known 0) ack.Missing (ack.At (index_of index))
+abbrev pub ack_from : ℕ → ℕ → Option Index
+ack_from known index = cond (eqb known 0) None (Some (index_of index))
 
 -- "its vote as missing, yes or no": 1 is a yes, 2 a no, and any other word says that the vote is missing.
-abbrev pub vote_from : ℕ → Vote
-vote_from said = cond (eqb said 1) vote.Yes (cond (eqb said 2) vote.No vote.Missing)
+abbrev pub vote_from : ℕ → Option Bool
+vote_from said = cond (eqb said 1) (Some true) (cond (eqb said 2) (Some false) None)
 
 -- The row of four words, in the order of `row_length`.
 abbrev pub peer_from : ℕ → ℕ → ℕ → ℕ → Peer

@@ -1,31 +1,26 @@
 -- The exported calls of the inflight window. A reader must know: each is the call of crate inflights on the window whose state the slice `window` begins with; a slice too short for the state or for the value of the answer is refusal 1.
 -- The result is 0 or the refusal's number. A refusal leaves every slice as it was.
-use Rattle.std.specs.Prelude.{ℕ, true, false, cond, List, [], ◌∷◌, length, get_or, eqb}
+use Rattle.std.specs.Prelude.{ℕ, true, false, cond, Option, Some, None, List, [], ◌∷◌, length, get_or, eqb}
+use Rattle.units.specs.Refusals.{Answer}
 use Rattle.inflights.specs.Calls.{made_window, capped, added, ring_after, freed_to, freed_first, cleared, rewound, fullness, counted}
 use Rattle.inflights.specs.declared.Inflights.{Inflights}
-use Rattle.inflights.specs.declared.Deferred.{Deferred}
-use Rattle.inflights.specs.declared.Deferred.TheVariants as deferred
-use Rattle.inflights.specs.declared.Answer.{Answer}
-use Rattle.inflights.specs.declared.Answer.TheVariants as answer
-use Rattle.inflights.specs.declared.Counted.{Counted}
-use Rattle.inflights.specs.declared.Counted.TheVariants as count-is
-use Rattle.exports.specs.Words.{single_length, window_length, flag_word, put, Outcome, leaves, yes_or_no_leaves, with_store, unless_short, reading}
+use Rattle.exports.specs.Words.{single_length, window_length, flag_word, Outcome, values_leave, yes_or_no_leaves, with_store, unless_short, reading}
 
 -- ---- The window's words
 
 -- 01, Inflights: a smaller cap "is deferred until it empties". Two words say whether one is: any first word but 0 says so, and the second is then the cap.
-unfoldable pub deferred_from : ℕ → ℕ → Deferred
-deferred_from is cap = cond (eqb is 0) deferred.Nothing (deferred.Cap cap)
+unfoldable pub deferred_from : ℕ → ℕ → Option ℕ
+deferred_from is cap = cond (eqb is 0) None (Some cap)
 
 -- The first of the two words that say whether a cap "is deferred": a yes or a no.
-abbrev pub is_deferred : Deferred → ℕ
-is_deferred deferred.Nothing = flag_word false
-is_deferred (deferred.Cap cap) = flag_word true
+abbrev pub is_deferred : Option ℕ → ℕ
+is_deferred None = flag_word false
+is_deferred (Some cap) = flag_word true
 
 -- The second of them: the cap that "is deferred", else 0.
-abbrev pub deferred_cap : Deferred → ℕ
-deferred_cap deferred.Nothing = 0
-deferred_cap (deferred.Cap cap) = cap
+abbrev pub deferred_cap : Option ℕ → ℕ
+deferred_cap None = 0
+deferred_cap (Some cap) = cap
 
 -- The window whose state a slice begins with, in the order of `window_words`. For the state that refusal 13 of 01 checks: "window state broken".
 unfoldable pub window_from : List ℕ → Inflights
@@ -42,20 +37,18 @@ window_words w = w.start ∷ w.count ∷ w.cap ∷ is_deferred w.deferred ∷ de
 
 -- ---- What an answer leaves
 
--- Of `window`, by a call that changes it: the state after it. A refusal "changes nothing".
-abbrev pub window_leaves : Answer → List ℕ → Outcome
-window_leaves (answer.Now w) window = leaves 0 (put window (window_words w) ∷ [])
-window_leaves (answer.Refused number) window = leaves number (window ∷ [])
+-- Of `window`, by a call that changes it: the state after it.
+abbrev pub window_leaves : Answer Inflights → List ℕ → Outcome
+window_leaves = values_leave window_words
 
--- Of `answer`: the count. A refusal "changes nothing".
-abbrev pub counted_leaves : Counted → List ℕ → Outcome
-counted_leaves (count-is.Is count) answer = leaves 0 (put answer (count ∷ []) ∷ [])
-counted_leaves (count-is.Refused number) answer = leaves number (answer ∷ [])
+-- Of `answer`: the count.
+abbrev pub counted_leaves : Answer ℕ → List ℕ → Outcome
+counted_leaves = values_leave (λ count. count ∷ [])
 
 -- ---- THE PROMISES, each of the call whose name it has
 
 -- What a call that changes the window, and no other slice, leaves of `window`, by its answer: "Only `add` writes a word."
-abbrev pub changes : List ℕ → Answer → Outcome
+abbrev pub changes : List ℕ → Answer Inflights → Outcome
 changes window said = unless_short window window_length (window ∷ []) (window_leaves said window)
 
 -- `inflights_new`, which does not read the words of `window`; 7: "a window cap above the ring's length".

@@ -1,11 +1,10 @@
 -- Words across the boundary. A reader must know: a lent slice of words begins with a state, of a log or of a window, or with the values of an answer; what stands behind them is never read and stays as it is.
 -- The length of each state and of the values of each answer stands here, and nowhere else.
-use Rattle.std.specs.Prelude.{ℕ, ◌+◌, Bool, cond, List, [], ◌∷◌, length, get_or, ltb}
+use Rattle.std.specs.Prelude.{ℕ, ◌+◌, Bool, cond, Ok, Err, List, [], ◌∷◌, length, get_or, ltb}
 use Rattle.std.proofs.lemmas.List.Edits.{sets}
+use Rattle.units.specs.Refusals.{Answer, number_of}
 use Rattle.units.specs.Units.{index_of, as_term}
-use Rattle.units.specs.Refusals.{broken_state}
-use Rattle.units.specs.declared.YesOrNo.{YesOrNo}
-use Rattle.units.specs.declared.YesOrNo.TheVariants as yes_or_no
+use Rattle.units.specs.declared.refusal.Refusal.TheVariants as refusal
 use Rattle.quorum.specs.Limits.{id_limit}
 use Rattle.raft_log.specs.declared.Log.{Log}
 
@@ -70,10 +69,18 @@ pub record Outcome : Type 0 where
 abbrev pub leaves : ℕ → List (List ℕ) → Outcome
 leaves result slices = record { result = result; slices = slices }
 
--- What a yes_or_no answer leaves of `answer`: the flag; or the refusal's number as the result. 01, "Refusals": "Every refusal returns its number alone and changes nothing."
-abbrev pub yes_or_no_leaves : YesOrNo → List ℕ → Outcome
-yes_or_no_leaves (yes_or_no.Is b) answer = leaves 0 (put answer (flag_word b ∷ []) ∷ [])
-yes_or_no_leaves (yes_or_no.Refused number) answer = leaves number (answer ∷ [])
+-- What an answer leaves of the slices that the call may write: what is written of its values, or the refusal's number as the result. 01, "Refusals": "Every refusal returns its number alone and changes nothing."
+abbrev pub answer_leaves : {A : Type 0} → (A → List (List ℕ)) → Answer A → List (List ℕ) → Outcome
+answer_leaves written (Ok a) slices = leaves 0 (written a)
+answer_leaves written (Err r) slices = leaves (number_of r) slices
+
+-- The same of an answer that is written into `answer` alone: the words of its values, or the refusal likewise.
+abbrev pub values_leave : {A : Type 0} → (A → List ℕ) → Answer A → List ℕ → Outcome
+values_leave words said answer = answer_leaves (λ a. put answer (words a) ∷ []) said (answer ∷ [])
+
+-- What an answer yes or no leaves of `answer`: the flag.
+abbrev pub yes_or_no_leaves : Answer Bool → List ℕ → Outcome
+yes_or_no_leaves = values_leave (λ b. flag_word b ∷ [])
 
 -- An outcome with the store that the call writes: "the records it adds or copies".
 abbrev pub with_store : List ℕ → Outcome → Outcome
@@ -81,7 +88,7 @@ with_store store out = leaves out.result (store ∷ out.slices)
 
 -- 01, refusal 1: "state rules or store lengths broken". So is a slice that is shorter than the words that it is for; all slices are then as they were.
 unfoldable pub unless_short : List ℕ → ℕ → List (List ℕ) → Outcome → Outcome
-unless_short slice words slices out = cond (ltb (length slice) words) (leaves broken_state slices) out
+unless_short slice words slices out = cond (ltb (length slice) words) (leaves (number_of refusal.BrokenState) slices) out
 
 -- What a call that only reads leaves of its answer, where its slices are long enough for the state's words and for the answer's; else 1, as above.
 abbrev pub reading : List ℕ → ℕ → ℕ → List ℕ → Outcome → Outcome

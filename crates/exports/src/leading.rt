@@ -1,13 +1,14 @@
 // The leader's commit step over words.
 ghost use Rattle.std.specs.Prelude.{◌≡◌, [], ◌∷◌};
+ghost use Rattle.units.specs.Refusals.{refusal_of};
 ghost use Rattle.exports.specs.Words.{leaves};
 ghost use Rattle.exports.specs.QuorumCalls.{leader_commit_leaves};
 
 use crate::halves::joint_index;
-use crate::words::{LOG, SINGLE, load, write_decided};
+use crate::words::{LOG, SINGLE, load, long_enough, store_decided};
 use leader::commit_found;
 use units::Term;
-use units::refusal::BROKEN_STATE;
+use units::refusal::Refusal;
 
 // Commits what a majority of every nonempty half has acknowledged. Value: 1 for yes, 0 for no.
 #[tactic(auto, unfolding(crate::specs::Words::unless_short, leader::specs::Leader::leader_commit))]
@@ -20,16 +21,13 @@ pub fn leader_maybe_commit(
     outgoing: &[u64],
     rows: &[u64],
     answer: &mut [u64],
-) -> u64
-    ensures { leaves result (log.new ∷ answer.new ∷ []) ≡ leader_commit_leaves log.old settled.now pending.now term incoming.now outgoing.now rows.now answer.old }
+) -> Result<(), Refusal>
+    ensures { leaves (refusal_of result) (log.new ∷ answer.new ∷ []) ≡ leader_commit_leaves log.old settled.now pending.now term incoming.now outgoing.now rows.now answer.old }
 {
-    if log.len() < LOG {
-        return BROKEN_STATE;
-    }
-    if answer.len() < SINGLE {
-        return BROKEN_STATE;
-    }
+    long_enough(log, LOG)?;
+    long_enough(answer, SINGLE)?;
     let found = joint_index(incoming, outgoing, rows);
-    let said = commit_found(load(log), settled, pending, Term(term), found);
-    write_decided(log, answer, said)
+    let decided = commit_found(load(log), settled, pending, Term(term), found)?;
+    store_decided(log, answer, decided);
+    Ok(())
 }

@@ -1,7 +1,7 @@
 #![tactic(auto)]
 // The boundary: the calls of the crates below, over numbers and slices of words alone. Crate exports_c hands them to programs in Rust and C.
-// A state stands as words in a lent slice, and so do the values of an answer; the result is 0 or the refusal's number.
-mod answers;
+// A state stands as words in a lent slice, and so do the values of an answer; a call that refuses writes nothing.
+mod bounds;
 mod halves;
 pub mod leading;
 pub mod log;

@@ -1,10 +1,11 @@
-// The calls of crate raft_log over words. Each tests that its slices are long enough, loads the log, calls, and writes last: the state and the values, where the call was not refused.
+// The calls of crate raft_log over words. Each tests that its slices are long enough, loads the log, calls, and writes last, the state and the values, so that a refusal writes nothing.
 ghost use Rattle.std.specs.Prelude.{◌≡◌, [], ◌∷◌};
+ghost use Rattle.units.specs.Refusals.{refusal_of};
 ghost use Rattle.exports.specs.Words.{leaves};
 ghost use Rattle.exports.specs.LogCalls.{maybe_append_leaves};
 
-use crate::words::{LOG, PAIR, load, write_appended};
-use units::refusal::BROKEN_STATE;
+use crate::words::{LOG, PAIR, load, long_enough, store, store_pair};
+use units::refusal::Refusal;
 use units::{Index, Term};
 
 // AppendEntries at the receiver. Values: conflict, last.
@@ -18,16 +19,14 @@ pub fn log_maybe_append(
     commit: u64,
     run: &[u64],
     answer: &mut [u64],
-) -> u64
-    ensures { leaves result (pending.new ∷ log.new ∷ answer.new ∷ []) ≡ maybe_append_leaves log.old settled.now pending.old idx term commit run.now answer.old }
+) -> Result<(), Refusal>
+    ensures { leaves (refusal_of result) (pending.new ∷ log.new ∷ answer.new ∷ []) ≡ maybe_append_leaves log.old settled.now pending.old idx term commit run.now answer.old }
 {
-    if log.len() < LOG {
-        return BROKEN_STATE;
-    }
-    if answer.len() < PAIR {
-        return BROKEN_STATE;
-    }
+    long_enough(log, LOG)?;
+    long_enough(answer, PAIR)?;
     let before = load(log);
-    let said = before.maybe_append(settled, pending, Index(idx), Term(term), Index(commit), run);
-    write_appended(log, answer, said)
+    let after = before.maybe_append(settled, pending, Index(idx), Term(term), Index(commit), run)?;
+    store(log, after.log);
+    store_pair(answer, after.conflict.0, after.last.0);
+    Ok(())
 }

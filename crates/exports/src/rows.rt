@@ -4,31 +4,31 @@ ghost use Rattle.exports.specs.Rows.{row_length, ack_from, vote_from, peers_from
 
 use quorum::joint::JointConfig;
 use quorum::majority::Voters;
-use quorum::rows::{Ack, Peer, Vote};
+use quorum::rows::Peer;
 use units::Index;
 
 // Words of a peer row: id, 0 if its acknowledgement is missing, the acknowledged index, its vote.
 pub const ROW: usize = 4;
 
-fn ack(known: u64, index: u64) -> Ack
+fn ack(known: u64, index: u64) -> Option<Index>
     ensures { result ≡ ack_from known index }
 {
     if known == 0 {
-        return Ack::Missing;
+        return None;
     }
-    Ack::At(Index(index))
+    Some(Index(index))
 }
 
-fn vote(said: u64) -> Vote
+fn vote(said: u64) -> Option<bool>
     ensures { result ≡ vote_from said }
 {
     if said == 1 {
-        return Vote::Yes;
+        return Some(true);
     }
     if said == 2 {
-        return Vote::No;
+        return Some(false);
     }
-    Vote::Missing
+    None
 }
 
 // The row whose words begin at `at`: it and those behind it are the rows from there on.

@@ -1,10 +1,13 @@
 // What a lent slice of words begins with: a log's state, or the values of an answer.
-ghost use Rattle.std.specs.Prelude.{◌≡◌, [], ◌∷◌, ◌≤◌, length};
-ghost use Rattle.exports.specs.Words.{log_length, single_length, pair_length, log_from, log_words, flag_word, put, leaves};
-ghost use Rattle.exports.specs.LogCalls.{appended_leaves, extended_leaves, changed_leaves, decided_leaves};
+ghost use Rattle.std.specs.Prelude.{◌≡◌, Err, cond, [], ◌∷◌, ◌≤◌, length, ltb};
+ghost use Rattle.units.specs.Refusals.{fine};
+ghost use Rattle.units.specs.declared.refusal.Refusal.TheVariants as refusal;
+ghost use Rattle.exports.specs.Words.{log_length, single_length, pair_length, log_from, log_words, flag_word, put};
+ghost use Rattle.exports.specs.LogCalls.{decided_writes};
 
 use quorum::joint::JointConfig;
-use raft_log::{Appended, Changed, Decided, Extended, Log};
+use raft_log::Log;
+use units::refusal::Refusal;
 use units::{Index, Term};
 
 // Words of a log's state: start, start term, offset, count, committed, persisted, applied.
@@ -24,6 +27,16 @@ pub const PART: usize = 5;
 
 // Words of an answer that lists ids: how many, and a word for each that there can be.
 pub const IDS: usize = JointConfig::IDS + 1;
+
+// 1 where a slice has fewer words than it is to have.
+pub fn long_enough(slice: &[u64], words: usize) -> Result<(), Refusal>
+    ensures { result ≡ cond (ltb (length slice.now) words) (Err refusal.BrokenState) fine }
+{
+    if slice.len() < words {
+        return Err(Refusal::BrokenState);
+    }
+    Ok(())
+}
 
 // A yes or a no as a word: 1 for yes, 0 for no.
 pub fn flag(b: bool) -> u64
@@ -72,69 +85,13 @@ pub fn store_pair(answer: &mut [u64], first: u64, second: u64)
     answer[1] = second;
 }
 
-// What an answer says, written last: the state and the values, nothing where it refuses.
-pub fn write_appended(log: &mut [u64], answer: &mut [u64], said: Appended) -> u64
-    requires { (log_length ≤ length log.old) × (pair_length ≤ length answer.old) }
-    ensures { leaves result (log.new ∷ answer.new ∷ []) ≡ appended_leaves said log.old answer.old }
-{
-    match said {
-        Appended::Done {
-            conflict,
-            last,
-            log: after,
-        } => {
-            store(log, after);
-            store_pair(answer, conflict.0, last.0);
-            0
-        }
-        Appended::Refused(number) => number,
-    }
-}
-
-// The same of an answer with the value last.
-pub fn write_extended(log: &mut [u64], answer: &mut [u64], said: Extended) -> u64
+// Yes, which is 1 and a new state, or no, which is 0 and the state as it was.
+pub fn store_decided(log: &mut [u64], answer: &mut [u64], decided: Option<Log>)
     requires { (log_length ≤ length log.old) × (single_length ≤ length answer.old) }
-    ensures { leaves result (log.new ∷ answer.new ∷ []) ≡ extended_leaves said log.old answer.old }
+    ensures { log.new ∷ answer.new ∷ [] ≡ decided_writes log.old answer.old decided }
 {
-    match said {
-        Extended::Last(last, after) => {
-            store(log, after);
-            answer[0] = last.0;
-            0
-        }
-        Extended::Refused(number) => number,
-    }
-}
-
-// The same of an answer without values.
-pub fn write_changed(log: &mut [u64], said: Changed) -> u64
-    requires { log_length ≤ length log.old }
-    ensures { leaves result (log.new ∷ []) ≡ changed_leaves said log.old }
-{
-    match said {
-        Changed::Now(after) => {
-            store(log, after);
-            0
-        }
-        Changed::Refused(number) => number,
-    }
-}
-
-// The same of an answer yes, which is 1 and a new state, or no, which is 0 and the state as it was.
-pub fn write_decided(log: &mut [u64], answer: &mut [u64], said: Decided) -> u64
-    requires { (log_length ≤ length log.old) × (single_length ≤ length answer.old) }
-    ensures { leaves result (log.new ∷ answer.new ∷ []) ≡ decided_leaves said log.old answer.old }
-{
-    match said {
-        Decided::Yes(after) => {
-            store(log, after);
-            answer[0] = flag(true);
-            0
-        }
-        Decided::No => {
-            answer[0] = flag(false);
-            0
-        }
-        Decided::Refused(number) => number,
+    answer[0] = flag(decided.is_some());
+    if let Some(after) = decided {
+        store(log, after);
     }
 }

@@ -3,6 +3,8 @@ ghost use Rattle.std.specs.Prelude.{◌≡◌, [], ◌∷◌};
 ghost use Rattle.exports.specs.Words.{leaves};
 ghost use Rattle.exports.specs.QuorumCalls.{leader_commit_leaves};
 
+use units::refusal::code;
+
 // Commits what a majority of every nonempty half has acknowledged. Value: 1 for yes, 0 for no.
 #[unsafe(no_mangle)]
 pub extern "C" fn leader_maybe_commit(
@@ -17,7 +19,7 @@ pub extern "C" fn leader_maybe_commit(
 ) -> u64
     ensures { leaves result (log.new ∷ answer.new ∷ []) ≡ leader_commit_leaves log.old settled.now pending.now term incoming.now outgoing.now rows.now answer.old }
 {
-    exports::leading::leader_maybe_commit(
+    code(exports::leading::leader_maybe_commit(
         log, settled, pending, term, incoming, outgoing, rows, answer,
-    )
+    ))
 }

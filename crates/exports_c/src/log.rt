@@ -3,6 +3,8 @@ ghost use Rattle.std.specs.Prelude.{◌≡◌, [], ◌∷◌};
 ghost use Rattle.exports.specs.Words.{leaves};
 ghost use Rattle.exports.specs.LogCalls.{maybe_append_leaves};
 
+use units::refusal::code;
+
 // AppendEntries at the receiver. Values: conflict, last.
 #[unsafe(no_mangle)]
 pub extern "C" fn log_maybe_append(
@@ -17,5 +19,5 @@ pub extern "C" fn log_maybe_append(
 ) -> u64
     ensures { leaves result (pending.new ∷ log.new ∷ answer.new ∷ []) ≡ maybe_append_leaves log.old settled.now pending.old idx term commit run.now answer.old }
 {
-    exports::log::log_maybe_append(log, settled, pending, idx, term, commit, run, answer)
+    code(exports::log::log_maybe_append(log, settled, pending, idx, term, commit, run, answer))
 }

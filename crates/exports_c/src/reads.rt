@@ -3,6 +3,8 @@ ghost use Rattle.std.specs.Prelude.{◌≡◌, [], ◌∷◌};
 ghost use Rattle.exports.specs.Words.{leaves};
 ghost use Rattle.exports.specs.Reads.{term_leaves, first_index_leaves, last_index_leaves, last_term_leaves, commit_info_leaves, is_up_to_date_leaves, find_conflict_by_term_leaves, slice_leaves, entries_leaves, next_entries_since_leaves, has_next_entries_since_leaves};
 
+use units::refusal::code;
+
 // The term at an index, 0 outside the log.
 #[unsafe(no_mangle)]
 pub extern "C" fn log_term(
@@ -14,7 +16,7 @@ pub extern "C" fn log_term(
 ) -> u64
     ensures { leaves result (answer.new ∷ []) ≡ term_leaves log.now settled.now pending.now i answer.old }
 {
-    exports::reads::log_term(log, settled, pending, i, answer)
+    code(exports::reads::log_term(log, settled, pending, i, answer))
 }
 
 #[unsafe(no_mangle)]
@@ -26,7 +28,7 @@ pub extern "C" fn log_first_index(
 ) -> u64
     ensures { leaves result (answer.new ∷ []) ≡ first_index_leaves log.now settled.now pending.now answer.old }
 {
-    exports::reads::log_first_index(log, settled, pending, answer)
+    code(exports::reads::log_first_index(log, settled, pending, answer))
 }
 
 #[unsafe(no_mangle)]
@@ -38,7 +40,7 @@ pub extern "C" fn log_last_index(
 ) -> u64
     ensures { leaves result (answer.new ∷ []) ≡ last_index_leaves log.now settled.now pending.now answer.old }
 {
-    exports::reads::log_last_index(log, settled, pending, answer)
+    code(exports::reads::log_last_index(log, settled, pending, answer))
 }
 
 #[unsafe(no_mangle)]
@@ -50,7 +52,7 @@ pub extern "C" fn log_last_term(
 ) -> u64
     ensures { leaves result (answer.new ∷ []) ≡ last_term_leaves log.now settled.now pending.now answer.old }
 {
-    exports::reads::log_last_term(log, settled, pending, answer)
+    code(exports::reads::log_last_term(log, settled, pending, answer))
 }
 
 // Values: committed, its term.
@@ -63,7 +65,7 @@ pub extern "C" fn log_commit_info(
 ) -> u64
     ensures { leaves result (answer.new ∷ []) ≡ commit_info_leaves log.now settled.now pending.now answer.old }
 {
-    exports::reads::log_commit_info(log, settled, pending, answer)
+    code(exports::reads::log_commit_info(log, settled, pending, answer))
 }
 
 // Whether a log that ends with (i, t) is at least as up to date as this one.
@@ -78,7 +80,7 @@ pub extern "C" fn log_is_up_to_date(
 ) -> u64
     ensures { leaves result (answer.new ∷ []) ≡ is_up_to_date_leaves log.now settled.now pending.now i t answer.old }
 {
-    exports::reads::log_is_up_to_date(log, settled, pending, i, t, answer)
+    code(exports::reads::log_is_up_to_date(log, settled, pending, i, t, answer))
 }
 
 // The largest index at most i whose term is at most t. Values: the index, 1 if a term goes with it, the term.
@@ -93,7 +95,7 @@ pub extern "C" fn log_find_conflict_by_term(
 ) -> u64
     ensures { leaves result (answer.new ∷ []) ≡ find_conflict_by_term_leaves log.now settled.now pending.now i t answer.old }
 {
-    exports::reads::log_find_conflict_by_term(log, settled, pending, i, t, answer)
+    code(exports::reads::log_find_conflict_by_term(log, settled, pending, i, t, answer))
 }
 
 // The records from low up to high, as far as one store holds them. Values: where (0: empty, 1: settled, 2: pending), first index, index after the last, first word in that store, how many words.
@@ -108,7 +110,7 @@ pub extern "C" fn log_slice(
 ) -> u64
     ensures { leaves result (answer.new ∷ []) ≡ slice_leaves log.now settled.now pending.now low high answer.old }
 {
-    exports::reads::log_slice(log, settled, pending, low, high, answer)
+    code(exports::reads::log_slice(log, settled, pending, low, high, answer))
 }
 
 // All records from i on, by the same values.
@@ -122,7 +124,7 @@ pub extern "C" fn log_entries(
 ) -> u64
     ensures { leaves result (answer.new ∷ []) ≡ entries_leaves log.now settled.now pending.now i answer.old }
 {
-    exports::reads::log_entries(log, settled, pending, i, answer)
+    code(exports::reads::log_entries(log, settled, pending, i, answer))
 }
 
 // The records after s that are committed and persisted, by the same values.
@@ -136,7 +138,7 @@ pub extern "C" fn log_next_entries_since(
 ) -> u64
     ensures { leaves result (answer.new ∷ []) ≡ next_entries_since_leaves log.now settled.now pending.now s answer.old }
 {
-    exports::reads::log_next_entries_since(log, settled, pending, s, answer)
+    code(exports::reads::log_next_entries_since(log, settled, pending, s, answer))
 }
 
 // Whether there are such records.
@@ -150,5 +152,5 @@ pub extern "C" fn log_has_next_entries_since(
 ) -> u64
     ensures { leaves result (answer.new ∷ []) ≡ has_next_entries_since_leaves log.now settled.now pending.now s answer.old }
 {
-    exports::reads::log_has_next_entries_since(log, settled, pending, s, answer)
+    code(exports::reads::log_has_next_entries_since(log, settled, pending, s, answer))
 }

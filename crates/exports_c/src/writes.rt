@@ -3,6 +3,8 @@ ghost use Rattle.std.specs.Prelude.{◌≡◌, [], ◌∷◌};
 ghost use Rattle.exports.specs.Words.{leaves};
 ghost use Rattle.exports.specs.LogCalls.{new_log_leaves, append_leaves, commit_to_leaves, maybe_commit_leaves, applied_to_leaves, maybe_persist_leaves, stable_entries_leaves};
 
+use units::refusal::code;
+
 // Set-up: the state of a new log over its two stores.
 #[unsafe(no_mangle)]
 pub extern "C" fn log_new(
@@ -15,7 +17,7 @@ pub extern "C" fn log_new(
 ) -> u64
     ensures { leaves result (log.new ∷ []) ≡ new_log_leaves start start_term last settled.now log.old }
 {
-    exports::writes::log_new(start, start_term, last, settled, pending, log)
+    code(exports::writes::log_new(start, start_term, last, settled, pending, log))
 }
 
 // The leader's own records. Value: last.
@@ -29,7 +31,7 @@ pub extern "C" fn log_append(
 ) -> u64
     ensures { leaves result (pending.new ∷ log.new ∷ answer.new ∷ []) ≡ append_leaves log.old settled.now pending.old run.now answer.old }
 {
-    exports::writes::log_append(log, settled, pending, run, answer)
+    code(exports::writes::log_append(log, settled, pending, run, answer))
 }
 
 // Committed is i, where it was below.
@@ -37,7 +39,7 @@ pub extern "C" fn log_append(
 pub extern "C" fn log_commit_to(log: &mut [u64], settled: &[u64], pending: &[u64], i: u64) -> u64
     ensures { leaves result (log.new ∷ []) ≡ commit_to_leaves log.old settled.now pending.now i }
 {
-    exports::writes::log_commit_to(log, settled, pending, i)
+    code(exports::writes::log_commit_to(log, settled, pending, i))
 }
 
 // Commits i where it is a record of term t above committed. Value: 1 for yes, 0 for no.
@@ -52,7 +54,7 @@ pub extern "C" fn log_maybe_commit(
 ) -> u64
     ensures { leaves result (log.new ∷ answer.new ∷ []) ≡ maybe_commit_leaves log.old settled.now pending.now i t answer.old }
 {
-    exports::writes::log_maybe_commit(log, settled, pending, i, t, answer)
+    code(exports::writes::log_maybe_commit(log, settled, pending, i, t, answer))
 }
 
 // Applied is i; 0 changes nothing.
@@ -60,7 +62,7 @@ pub extern "C" fn log_maybe_commit(
 pub extern "C" fn log_applied_to(log: &mut [u64], settled: &[u64], pending: &[u64], i: u64) -> u64
     ensures { leaves result (log.new ∷ []) ≡ applied_to_leaves log.old settled.now pending.now i }
 {
-    exports::writes::log_applied_to(log, settled, pending, i)
+    code(exports::writes::log_applied_to(log, settled, pending, i))
 }
 
 // Persisted is i where it is a settled record of term t above persisted. Value: 1 for yes, 0 for no.
@@ -75,7 +77,7 @@ pub extern "C" fn log_maybe_persist(
 ) -> u64
     ensures { leaves result (log.new ∷ answer.new ∷ []) ≡ maybe_persist_leaves log.old settled.now pending.now i t answer.old }
 {
-    exports::writes::log_maybe_persist(log, settled, pending, i, t, answer)
+    code(exports::writes::log_maybe_persist(log, settled, pending, i, t, answer))
 }
 
 // Pending records that were written go over to the settled ones.
@@ -89,5 +91,5 @@ pub extern "C" fn log_stable_entries(
 ) -> u64
     ensures { leaves result (settled.new ∷ log.new ∷ []) ≡ stable_entries_leaves log.old settled.old pending.now i t }
 {
-    exports::writes::log_stable_entries(log, settled, pending, i, t)
+    code(exports::writes::log_stable_entries(log, settled, pending, i, t))
 }

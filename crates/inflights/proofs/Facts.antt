@@ -5,14 +5,13 @@ use mathlib.Core.Bool.{Bool, true, false, not, ◌||◌, and-eq-true_iff}
 use native.Mathlib.Omega.{arith}
 use lib.Dec.{ltb, leb, eqb}
 use borrow.Author.Tests.{not-true, ltb-true, leb-true, eqb-true, eqb-false, lt-ltb, le-leb}
-use Rattle.units.specs.declared.Check.TheVariants.{Fine}
 use Rattle.units.proofs.Checks.{holds, both_fine}
 use Rattle.units.proofs.Never.{never}
 use Rattle.inflights.specs.State.{start_fits, deferred_fits, sound, window_check, cap_check, is_full, deferred_reached, room_check, Waits, Sound}
 use Rattle.inflights.specs.Calls.{add_check, set_cap_check}
-use Rattle.inflights.specs.declared.Deferred.{Deferred}
-use Rattle.inflights.specs.declared.Deferred.TheVariants.{Nothing, Cap}
 use Rattle.inflights.specs.declared.Inflights.{Inflights}
+use Rattle.std.specs.Prelude.{Some, None, Option}
+use Rattle.units.specs.Refusals.{fine}
 
 -- A start that fits lies in the ring, or is 0.
 start_by : (s n : ℕ) (b : Bool) → eqb s 0 ≡ b → (b || ltb s n) ≡ true → s < max n 1
@@ -23,15 +22,15 @@ by_start : (s n : ℕ) (b : Bool) → eqb s 0 ≡ b → s < max n 1 → (b || lt
 by_start s n true e h = refl
 by_start s n false e h = let z : s ≡ 0 → ⊥ = eqb-false s 0 e in lt-ltb s n (omega (arith, z))
 
-waits_by : (d : Deferred) (count cap : ℕ) → deferred_fits d count cap ≡ true → Waits d count cap
+waits_by : (d : Option ℕ) (count cap : ℕ) → deferred_fits d count cap ≡ true → Waits d count cap
 unfolding deferred_fits
-waits_by Nothing count cap h = tt
-waits_by (Cap c) count cap h = let a = (and-eq-true_iff (ltb c cap) (ltb 0 count)).0 h in (ltb-true _ _ a.0, ltb-true _ _ a.1)
+waits_by None count cap h = tt
+waits_by (Some c) count cap h = let a = (and-eq-true_iff (ltb c cap) (ltb 0 count)).0 h in (ltb-true _ _ a.0, ltb-true _ _ a.1)
 
-by_waits : (d : Deferred) (count cap : ℕ) → Waits d count cap → deferred_fits d count cap ≡ true
+by_waits : (d : Option ℕ) (count cap : ℕ) → Waits d count cap → deferred_fits d count cap ≡ true
 unfolding deferred_fits
-by_waits Nothing count cap h = refl
-by_waits (Cap c) count cap h = simp (lt-ltb c cap h.0, lt-ltb 0 count h.1)
+by_waits None count cap h = refl
+by_waits (Some c) count cap h = simp (lt-ltb c cap h.0, lt-ltb 0 count h.1)
 
 sound_by : (w : Inflights) (n : ℕ) → sound w n ≡ true → Sound w n
 unfolding sound start_fits
@@ -47,20 +46,20 @@ sound_by w n h =
     }
 
 -- A window that passes the check is sound, and a sound one passes.
-pub window_sound : (w : Inflights) (n : ℕ) → window_check w n ≡ Fine → Sound w n
+pub window_sound : (w : Inflights) (n : ℕ) → window_check w n ≡ fine → Sound w n
 unfolding window_check
 window_sound w n e = sound_by w n (holds (sound w n) _ e)
 
-pub sound_window : (w : Inflights) (n : ℕ) → Sound w n → window_check w n ≡ Fine
+pub sound_window : (w : Inflights) (n : ℕ) → Sound w n → window_check w n ≡ fine
 unfolding window_check sound start_fits
 sound_window w n s = simp (le-leb _ _ s.count_cap, le-leb _ _ s.cap_ring, by_start w.start n _ refl s.start_ring, by_waits w.deferred w.count w.cap s.waits)
 
-pub cap_fits : (cap n : ℕ) → cap_check cap n ≡ Fine → cap ≤ n
+pub cap_fits : (cap n : ℕ) → cap_check cap n ≡ fine → cap ≤ n
 unfolding cap_check
 cap_fits cap n e = leb-true _ _ (holds (leb cap n) _ e)
 
 -- A window that has room is below its cap, since it is not above.
-not_full : (w : Inflights) → room_check w ≡ Fine → is_full w ≡ false
+not_full : (w : Inflights) → room_check w ≡ fine → is_full w ≡ false
 unfolding room_check
 not_full w e = not-true (is_full w) (holds (not (is_full w)) _ e)
 
@@ -68,15 +67,15 @@ below_by : (a b : ℕ) (t u : Bool) → eqb a b ≡ t → (t || u) ≡ false →
 below_by a b true u e h l = let z : ◌≡◌ {A = Bool} true false = h in never cc
 below_by a b false u e h l = let z : a ≡ b → ⊥ = eqb-false a b e in omega (arith, z)
 
-room_below : (w : Inflights) → room_check w ≡ Fine → w.count ≤ w.cap → w.count < w.cap
-unfolding is_full
-room_below w e l = below_by w.count w.cap _ (deferred_reached w.deferred w.count) refl (not_full w e) l
-
 -- What has been tested where `add` writes, and where `set_cap` takes a cap.
-pub may_add : (w : Inflights) (n : ℕ) → add_check w n ≡ Fine → (Sound w n) × (w.count < w.cap)
-unfolding add_check
-may_add w n e = let a = (both_fine (window_check w n) (room_check w)).0 e in let s = window_sound w n a.0 in (s, room_below w a.1 s.count_cap)
+pub with_room : (w : Inflights) (n : ℕ) → window_check w n ≡ fine → room_check w ≡ fine → (Sound w n) × (w.count < w.cap)
+unfolding is_full
+with_room w n e f = let s = window_sound w n e in (s, below_by w.count w.cap _ (deferred_reached w.deferred w.count) refl (not_full w f) s.count_cap)
 
-pub may_set_cap : (w : Inflights) (n cap : ℕ) → set_cap_check w n cap ≡ Fine → (Sound w n) × (cap ≤ n)
+pub may_add : (w : Inflights) (n : ℕ) → add_check w n ≡ fine → (Sound w n) × (w.count < w.cap)
+unfolding add_check
+may_add w n e = let a = (both_fine (window_check w n) (room_check w)).0 e in with_room w n a.0 a.1
+
+pub may_set_cap : (w : Inflights) (n cap : ℕ) → set_cap_check w n cap ≡ fine → (Sound w n) × (cap ≤ n)
 unfolding set_cap_check
 may_set_cap w n cap e = let a = (both_fine (window_check w n) (cap_check cap n)).0 e in (window_sound w n a.0, cap_fits cap n a.1)

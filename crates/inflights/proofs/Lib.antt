@@ -5,4 +5,3 @@ pub mod Freeing
 pub mod Lists
 pub mod Queue
 pub mod Stays
-pub mod InPlace

@@ -1,14 +1,9 @@
 -- What the calls do to the queue, in plain words on lists. A reader must know: proofs/Queue.antt shows that the promises of `Calls` do this to `flights`, and proofs/Stays.antt that a window that a call answers is `NeverBroken`.
-use Rattle.std.specs.Prelude.{ℕ, ◌≤◌, ◌<◌, ◌≡◌, ◌≢◌, ◌⊎◌, List, [], ◌∷◌, ◌++◌, length}
-use Rattle.units.specs.Refusals.{broken_window}
+use Rattle.std.specs.Prelude.{ℕ, ◌≤◌, ◌<◌, ◌≡◌, ◌≢◌, ◌⊎◌, List, [], ◌∷◌, ◌++◌, length, Err, Some, None, Option}
+use Rattle.units.specs.declared.refusal.Refusal.TheVariants as refusal
 use Rattle.units.specs.Lists.{Each}
-use Rattle.units.specs.declared.YesOrNo.TheVariants as yes_or_no
 use Rattle.inflights.specs.Calls.{capped, fullness, counted, added, freed_to, freed_first, cleared, rewound}
-use Rattle.inflights.specs.declared.Deferred.{Deferred}
-use Rattle.inflights.specs.declared.Deferred.TheVariants.{Nothing, Cap}
 use Rattle.inflights.specs.declared.Inflights.{Inflights}
-use Rattle.inflights.specs.declared.Answer.TheVariants.{Refused}
-use Rattle.inflights.specs.declared.Counted.TheVariants as count-is
 
 -- Every flight of a list is at most `to`: those that go "while the flight is at most `to`".
 unfoldable pub AllAtMost : ℕ → List ℕ → Type 0
@@ -27,9 +22,9 @@ pub record Frees (to : ℕ) (before after : List ℕ) : Type 0 where
   pub stops : BeginsAbove to after
 
 -- 01, Inflights: "a deferred cap exists and count is at least that".
-abbrev pub Reached : Deferred → ℕ → Type 0
-Reached Nothing count = ⊥
-Reached (Cap c) count = c ≤ count
+abbrev pub Reached : Option ℕ → ℕ → Type 0
+Reached None count = ⊥
+Reached (Some c) count = c ≤ count
 
 -- 01, Inflights: "`full` is count = cap, or a deferred cap exists and count is at least that."
 abbrev pub IsFull : Inflights → ℕ → Type 0
@@ -37,11 +32,11 @@ IsFull w count = (count ≡ w.cap) ⊎ Reached w.deferred count
 
 -- No call on this ring refuses the window with 13: "window state broken".
 pub record NeverBroken (w : Inflights) (ring : List ℕ) : Type 0 where
-  pub full : fullness w (length ring) ≢ yes_or_no.Refused broken_window
-  pub count : counted w (length ring) ≢ count-is.Refused broken_window
-  pub set_cap : (cap : ℕ) → capped w (length ring) cap ≢ Refused broken_window
-  pub add : added w (length ring) ≢ Refused broken_window
-  pub free_to : (to : ℕ) → freed_to w ring to ≢ Refused broken_window
-  pub free_first_one : freed_first w ring ≢ Refused broken_window
-  pub reset : cleared w (length ring) ≢ Refused broken_window
-  pub maybe_free_buffer : rewound w (length ring) ≢ Refused broken_window
+  pub full : fullness w (length ring) ≢ Err refusal.BrokenWindow
+  pub count : counted w (length ring) ≢ Err refusal.BrokenWindow
+  pub set_cap : (cap : ℕ) → capped w (length ring) cap ≢ Err refusal.BrokenWindow
+  pub add : added w (length ring) ≢ Err refusal.BrokenWindow
+  pub free_to : (to : ℕ) → freed_to w ring to ≢ Err refusal.BrokenWindow
+  pub free_first_one : freed_first w ring ≢ Err refusal.BrokenWindow
+  pub reset : cleared w (length ring) ≢ Err refusal.BrokenWindow
+  pub maybe_free_buffer : rewound w (length ring) ≢ Err refusal.BrokenWindow

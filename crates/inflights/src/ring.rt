@@ -1,7 +1,7 @@
 // The ring's places, and the flights that stand there. What these functions require, the public calls have tested.
 ghost use Rattle.std.specs.Prelude.{◌≡◌, ◌<◌, length};
 ghost use Rattle.inflights.specs.State.{Sound};
-ghost use Rattle.inflights.specs.Ring.{InRing, place_of, flights_from, leading};
+ghost use Rattle.inflights.specs.Ring.{InRing, place_of, flights, leading};
 ghost use Rattle.inflights.specs.Calls.{free_to};
 
 use crate::Inflights;
@@ -20,36 +20,19 @@ pub fn place(start: usize, i: usize, n: usize) -> usize
     i - rest
 }
 
-// The place right behind.
-#[tactic(auto, using(crate::proofs::Places::place_low, crate::proofs::Places::place_high))]
-fn next(at: usize, n: usize) -> usize
-    requires { at < n }
-    ensures { result ≡ place_of at 1 n }
-{
-    let behind = at + 1;
-    if behind < n {
-        return behind;
-    }
-    0
-}
-
 // How many flights in front are at most `to`.
-#[tactic(auto, using(crate::proofs::Leading::walk_stops, crate::proofs::Leading::walk_ends))]
-fn lead(start: usize, count: usize, ring: &[u64], to: u64) -> usize
-    requires { InRing start count (length ring.now) }
-    ensures { result ≡ leading to (flights_from start count ring.now) }
+#[tactic(auto, using(crate::proofs::Places::place_in, crate::proofs::Leading::walk_stops, crate::proofs::Leading::walk_ends))]
+fn lead(w: Inflights, ring: &[u64], to: u64) -> usize
+    requires { Sound w (length ring.now) }
+    ensures { result ≡ leading to (flights w ring.now) }
 {
     let n = ring.len();
-    let mut at = start;
-    let mut i: usize = 0;
-    while i < count {
-        if to < ring[at] {
+    for i in 0..w.count {
+        if to < ring[place(w.start, i, n)] {
             return i;
         }
-        at = next(at, n);
-        i += 1;
     }
-    i
+    w.count
 }
 
 // The window without those flights.
@@ -58,15 +41,10 @@ pub fn freed(w: Inflights, ring: &[u64], to: u64) -> Inflights
     requires { Sound w (length ring.now) }
     ensures { result ≡ free_to w ring.now to }
 {
-    let start = w.start;
-    let count = w.count;
-    let deferred = w.deferred;
-    let gone = lead(start, count, ring, to);
-    let at = place(start, gone, ring.len());
+    let gone = lead(w, ring, to);
     take_up(Inflights {
-        start: at,
-        count: count - gone,
-        cap: w.cap,
-        deferred,
+        start: place(w.start, gone, ring.len()),
+        count: w.count - gone,
+        ..w
     })
 }

@@ -4,11 +4,11 @@
 ghost use Rattle.std.specs.Prelude.{◌≡◌};
 ghost use Rattle.leader.specs.Leader.{commit_found, leader_commit};
 
-use quorum::Committed;
 use quorum::joint::{JointConfig, committed_index};
 use quorum::rows::Peer;
-use raft_log::{Decided, Log, Placed};
-use units::Term;
+use raft_log::Log;
+use units::refusal::Refusal;
+use units::{Index, Term};
 
 // Commits what a majority of every nonempty half has acknowledged, where its record is of the leader's own term.
 #[tactic(auto, unfolding(crate::specs::Leader::leader_commit))]
@@ -19,7 +19,7 @@ pub fn maybe_commit(
     term: Term,
     config: JointConfig,
     peers: &[Peer],
-) -> Decided
+) -> Result<Option<Log>, Refusal>
     ensures { result ≡ leader_commit log settled.now pending.now term.0 config peers.now }
 {
     commit_found(log, settled, pending, term, committed_index(config, peers))
@@ -32,15 +32,15 @@ pub fn commit_found(
     settled: &[u64],
     pending: &[u64],
     term: Term,
-    found: Committed,
-) -> Decided
+    found: Result<(Index, bool), Refusal>,
+) -> Result<Option<Log>, Refusal>
     ensures { result ≡ commit_found log settled.now pending.now term.0 found }
 {
     match found {
-        Committed::At(index, _free) => log.maybe_commit(settled, pending, index, term),
-        Committed::Refused(number) => match log.last_index(settled, pending) {
-            Placed::At(_last) => Decided::Refused(number),
-            Placed::Refused(broken) => Decided::Refused(broken),
-        },
+        Ok((index, _free)) => log.maybe_commit(settled, pending, index, term),
+        Err(refusal) => {
+            log.last_index(settled, pending)?;
+            Err(refusal)
+        }
     }
 }

@@ -13,16 +13,14 @@ mod window;
 ghost use Rattle.std.specs.Prelude.{◌≤◌, IfOk};
 ghost use Rattle.lists.specs.Limits.{longest_line};
 
-use crate::line::number_at;
 use crate::reader::Reader;
 use crate::text::{end_line, write_unknown};
 use std::io;
 use std::io::{Read, Write};
-use units::words::shorter;
 
 // The call of one line.
 fn replay_line<W: Write>(out: &mut W, line: &[u64]) -> io::Result<()> {
-    match number_at(line, 0) {
+    match line.first().copied().unwrap_or(0) {
         1..=9 => window::replay(out, line)?,
         11..=29 => log::replay(out, line)?,
         30 => leading::replay(out, line)?,
@@ -34,15 +32,15 @@ fn replay_line<W: Write>(out: &mut W, line: &[u64]) -> io::Result<()> {
 
 // The line that the first words make.
 fn replay_first<W: Write>(out: &mut W, words: &[u64], count: usize) -> io::Result<()> {
-    if words.len() < count {
-        return Ok(());
+    match words.get(..count) {
+        Some(line) => replay_line(out, line),
+        None => Ok(()),
     }
-    replay_line(out, &words[0..count])
 }
 
 // One byte more: a line feed ends the line.
 fn step<W: Write>(out: &mut W, words: &mut [u64], reader: Reader, byte: u8) -> io::Result<Reader> {
-    if byte != 10 {
+    if byte != b'\n' {
         return Ok(reader.with(words, byte));
     }
     let whole = reader.ended(words);
@@ -108,5 +106,5 @@ pub fn replay(rt: &(impl Input + Print)) -> io::Result<usize>
 {
     let mut words = [0u64; LINE];
     let left = read_all(&mut rt.reader(), &mut io::writer(rt), &mut words)?;
-    Ok(shorter(left.count, LINE))
+    Ok(left.count.min(LINE))
 }

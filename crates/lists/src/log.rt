@@ -1,6 +1,6 @@
 // The calls on the log.
 //     in:  call log settled pending a b c run answer        out:  result log settled pending answer
-use crate::line::{STATE, STORE, copied_at, number_at, part, past};
+use crate::line::{Fields, STATE, STORE};
 use crate::text::{write_result, write_words};
 use exports::log::log_maybe_append;
 use exports::reads::{
@@ -14,18 +14,17 @@ use exports::writes::{
 };
 use std::io;
 use std::io::Write;
+use units::refusal::Refusal;
 
-// The calls that write nothing but the answer; the last arm is 29. The rest of the line begins with the numbers.
+// The calls that write nothing but the answer; the last arm is 29.
 fn read(
     name: u64,
-    rest: &[u64],
+    [a, b, _]: [u64; 3],
     log: &[u64],
     settled: &[u64],
     pending: &[u64],
     answer: &mut [u64],
-) -> u64 {
-    let a = number_at(rest, 0);
-    let b = number_at(rest, 1);
+) -> Result<(), Refusal> {
     match name {
         12 => log_term(log, settled, pending, a, answer),
         13 => log_first_index(log, settled, pending, answer),
@@ -41,19 +40,16 @@ fn read(
     }
 }
 
-// The calls that write the log or a store; the last arm is 25. After the numbers stands the run.
+// The calls that write the log or a store; the last arm is 25.
 fn write(
     name: u64,
-    rest: &[u64],
+    [a, b, c]: [u64; 3],
+    run: &[u64],
     log: &mut [u64],
     settled: &mut [u64],
     pending: &mut [u64],
     answer: &mut [u64],
-) -> u64 {
-    let a = number_at(rest, 0);
-    let b = number_at(rest, 1);
-    let c = number_at(rest, 2);
-    let run = part(rest, 3);
+) -> Result<(), Refusal> {
     match name {
         11 => log_new(a, b, c, settled, pending, log),
         19 => log_maybe_append(log, settled, pending, a, b, c, run, answer),
@@ -67,62 +63,20 @@ fn write(
 }
 
 // The call of that number, from 11 to 29.
+// Its slices stay apart: the borrow checker of today's Rattle does not cover a struct of several `&mut [u64]` that a call takes apart.
 fn call(
     name: u64,
-    rest: &[u64],
+    numbers: [u64; 3],
+    run: &[u64],
     log: &mut [u64],
     settled: &mut [u64],
     pending: &mut [u64],
     answer: &mut [u64],
-) -> u64 {
+) -> Result<(), Refusal> {
     match name {
-        11 | 19..=25 => write(name, rest, log, settled, pending, answer),
-        _ => read(name, rest, log, settled, pending, answer),
+        11 | 19..=25 => write(name, numbers, run, log, settled, pending, answer),
+        _ => read(name, numbers, log, settled, pending, answer),
     }
-}
-
-// The call is made, and its line is written.
-fn answered<W: Write>(
-    out: &mut W,
-    name: u64,
-    rest: &[u64],
-    log: &mut [u64],
-    settled: &mut [u64],
-    pending: &mut [u64],
-    answer: &mut [u64],
-) -> io::Result<()> {
-    write_result(out, call(name, rest, log, settled, pending, answer))?;
-    write_words(out, log)?;
-    write_words(out, settled)?;
-    write_words(out, pending)?;
-    write_words(out, answer)
-}
-
-// The line's slices are copied to lent ones.
-fn filled<W: Write>(
-    out: &mut W,
-    line: &[u64],
-    log: &mut [u64],
-    settled: &mut [u64],
-    pending: &mut [u64],
-    answer: &mut [u64],
-) -> io::Result<()> {
-    let from_settled = past(line, 1);
-    let from_pending = past(from_settled, 0);
-    let rest = past(from_pending, 0);
-    let l = copied_at(line, 1, log);
-    let s = copied_at(from_settled, 0, settled);
-    let p = copied_at(from_pending, 0, pending);
-    let a = copied_at(past(rest, 3), 0, answer);
-    answered(
-        out,
-        number_at(line, 0),
-        rest,
-        &mut log[0..l],
-        &mut settled[0..s],
-        &mut pending[0..p],
-        &mut answer[0..a],
-    )
 }
 
 pub fn replay<W: Write>(out: &mut W, line: &[u64]) -> io::Result<()> {
@@ -130,5 +84,17 @@ pub fn replay<W: Write>(out: &mut W, line: &[u64]) -> io::Result<()> {
     let mut settled = [0u64; STORE];
     let mut pending = [0u64; STORE];
     let mut answer = [0u64; STATE];
-    filled(out, line, &mut log, &mut settled, &mut pending, &mut answer)
+    let mut fields = Fields::of(line);
+    let name = fields.number();
+    let log = fields.copied(&mut log);
+    let settled = fields.copied(&mut settled);
+    let pending = fields.copied(&mut pending);
+    let numbers = [fields.number(), fields.number(), fields.number()];
+    let run = fields.slice();
+    let answer = fields.copied(&mut answer);
+    write_result(out, call(name, numbers, run, log, settled, pending, answer))?;
+    write_words(out, log)?;
+    write_words(out, settled)?;
+    write_words(out, pending)?;
+    write_words(out, answer)
 }

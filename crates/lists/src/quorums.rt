@@ -2,7 +2,7 @@
 //     in:  call first second rows id answer        out:  result answer
 // First are the voters, or the incoming ones; second the outgoing ones, none for a majority.
 // The checks are lent no answer, and what the line has of it stays.
-use crate::line::{STATE, copied_at, number_at, part, past};
+use crate::line::{Fields, STATE};
 use crate::text::{write_result, write_words};
 use exports::quorums::{
     joint_checked, joint_clear, joint_committed_index, joint_contains, joint_ids,
@@ -11,6 +11,7 @@ use exports::quorums::{
 };
 use std::io;
 use std::io::Write;
+use units::refusal::Refusal;
 
 // The call of that number, from 31 to 41, which is the last arm.
 fn call(
@@ -20,7 +21,7 @@ fn call(
     rows: &[u64],
     id: u64,
     answer: &mut [u64],
-) -> u64 {
+) -> Result<(), Refusal> {
     match name {
         31 => majority_committed_index(first, rows, answer),
         32 => majority_vote_result(first, rows, answer),
@@ -36,38 +37,15 @@ fn call(
     }
 }
 
-// The call is made, and its line is written.
-fn answered<W: Write>(
-    out: &mut W,
-    name: u64,
-    first: &[u64],
-    second: &[u64],
-    rows: &[u64],
-    id: u64,
-    answer: &mut [u64],
-) -> io::Result<()> {
-    write_result(out, call(name, first, second, rows, id, answer))?;
-    write_words(out, answer)
-}
-
-// The slice that the call may write is copied to a lent one.
-fn filled<W: Write>(out: &mut W, line: &[u64], answer: &mut [u64]) -> io::Result<()> {
-    let from_second = past(line, 1);
-    let from_rows = past(from_second, 0);
-    let from_id = past(from_rows, 0);
-    let a = copied_at(from_id, 1, answer);
-    answered(
-        out,
-        number_at(line, 0),
-        part(line, 1),
-        part(from_second, 0),
-        part(from_rows, 0),
-        number_at(from_id, 0),
-        &mut answer[0..a],
-    )
-}
-
 pub fn replay<W: Write>(out: &mut W, line: &[u64]) -> io::Result<()> {
     let mut answer = [0u64; STATE];
-    filled(out, line, &mut answer)
+    let mut fields = Fields::of(line);
+    let name = fields.number();
+    let first = fields.slice();
+    let second = fields.slice();
+    let rows = fields.slice();
+    let id = fields.number();
+    let answer = fields.copied(&mut answer);
+    write_result(out, call(name, first, second, rows, id, answer))?;
+    write_words(out, answer)
 }

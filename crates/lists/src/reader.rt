@@ -4,50 +4,43 @@
 #[derive(Clone, Copy)]
 pub struct Reader {
     pub count: usize,
-    value: u64,
-    open: bool,
+    open: Option<u64>,
 }
 
 impl Reader {
     // Between two numbers.
     pub fn after(count: usize) -> Reader {
-        Reader {
-            count,
-            value: 0,
-            open: false,
-        }
+        Reader { count, open: None }
     }
 
     // A digit more; a number that would be too large stays as it is.
     fn digit(self, d: u64) -> Reader {
-        let value = self.value;
-        let count = self.count;
+        let value = self.open.unwrap_or(0);
         let most = (u64::MAX - d) / 10;
         Reader {
-            count,
-            value: if value <= most { value * 10 + d } else { value },
-            open: true,
+            count: self.count,
+            open: Some(if value <= most { value * 10 + d } else { value }),
         }
     }
 
     // The number is over: it goes to the words, if there is room.
     pub fn ended(self, words: &mut [u64]) -> Reader {
-        let count = self.count;
-        if !self.open {
+        let Some(number) = self.open else {
             return self;
-        }
+        };
+        let count = self.count;
         if words.len() <= count {
             return Reader::after(count);
         }
-        words[count] = self.value;
+        words[count] = number;
         Reader::after(count + 1)
     }
 
     // One byte more of the line.
     pub fn with(self, words: &mut [u64], byte: u8) -> Reader {
-        if 48 <= byte && byte <= 57 {
-            return self.digit(byte as u64 - 48);
+        match byte {
+            b'0'..=b'9' => self.digit((byte - b'0') as u64),
+            _ => self.ended(words),
         }
-        self.ended(words)
     }
 }

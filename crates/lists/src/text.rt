@@ -1,10 +1,11 @@
 // What a line says is written: numbers, a space before each but the first.
 use std::io;
 use std::io::Write;
+use units::refusal::{Refusal, code};
 
-// The result of a call begins its line.
-pub fn write_result<W: Write>(out: &mut W, res: u64) -> io::Result<()> {
-    write!(out, "{res}")
+// The result of a call begins its line: 0, or the refusal's number.
+pub fn write_result<W: Write>(out: &mut W, said: Result<(), Refusal>) -> io::Result<()> {
+    write!(out, "{}", code(said))
 }
 
 pub fn write_words<W: Write>(out: &mut W, words: &[u64]) -> io::Result<()> {

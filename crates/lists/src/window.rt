@@ -1,6 +1,6 @@
 // The calls on the inflight window.
 //     in:  call window ring number answer        out:  result window ring answer
-use crate::line::{STATE, STORE, copied_at, number_at, past};
+use crate::line::{Fields, STATE, STORE};
 use crate::text::{write_result, write_words};
 use exports::window::{
     inflights_add, inflights_count, inflights_free_first_one, inflights_free_to, inflights_full,
@@ -8,9 +8,16 @@ use exports::window::{
 };
 use std::io;
 use std::io::Write;
+use units::refusal::Refusal;
 
 // The call of that number, from 1 to 9, which is the last arm.
-fn call(name: u64, window: &mut [u64], ring: &mut [u64], number: u64, answer: &mut [u64]) -> u64 {
+fn call(
+    name: u64,
+    window: &mut [u64],
+    ring: &mut [u64],
+    number: u64,
+    answer: &mut [u64],
+) -> Result<(), Refusal> {
     match name {
         1 => inflights_new(number, ring, window),
         2 => inflights_set_cap(window, ring, number),
@@ -24,47 +31,18 @@ fn call(name: u64, window: &mut [u64], ring: &mut [u64], number: u64, answer: &m
     }
 }
 
-// The call is made, and its line is written.
-fn answered<W: Write>(
-    out: &mut W,
-    name: u64,
-    window: &mut [u64],
-    ring: &mut [u64],
-    number: u64,
-    answer: &mut [u64],
-) -> io::Result<()> {
-    write_result(out, call(name, window, ring, number, answer))?;
-    write_words(out, window)?;
-    write_words(out, ring)?;
-    write_words(out, answer)
-}
-
-// The line's slices are copied to lent ones.
-fn filled<W: Write>(
-    out: &mut W,
-    line: &[u64],
-    window: &mut [u64],
-    ring: &mut [u64],
-    answer: &mut [u64],
-) -> io::Result<()> {
-    let from_ring = past(line, 1);
-    let from_number = past(from_ring, 0);
-    let w = copied_at(line, 1, window);
-    let r = copied_at(from_ring, 0, ring);
-    let a = copied_at(from_number, 1, answer);
-    answered(
-        out,
-        number_at(line, 0),
-        &mut window[0..w],
-        &mut ring[0..r],
-        number_at(from_number, 0),
-        &mut answer[0..a],
-    )
-}
-
 pub fn replay<W: Write>(out: &mut W, line: &[u64]) -> io::Result<()> {
     let mut window = [0u64; STATE];
     let mut ring = [0u64; STORE];
     let mut answer = [0u64; STATE];
-    filled(out, line, &mut window, &mut ring, &mut answer)
+    let mut fields = Fields::of(line);
+    let name = fields.number();
+    let window = fields.copied(&mut window);
+    let ring = fields.copied(&mut ring);
+    let number = fields.number();
+    let answer = fields.copied(&mut answer);
+    write_result(out, call(name, window, ring, number, answer))?;
+    write_words(out, window)?;
+    write_words(out, ring)?;
+    write_words(out, answer)
 }

@@ -6,17 +6,10 @@ use Prim.Native.Nat.{ℕ, ◌-◌, ◌≤◌, ◌<◌, min}
 use lib.Dec.{eqb, leb, ltb}
 use borrow.Author.Tests.{ltb-true, ltb-false, leb-true, leb-false, not-false}
 use Rattle.units.specs.declared.Index.{Index}
-use Rattle.units.specs.Refusals.{broken_state}
+use Rattle.units.specs.declared.refusal.Refusal.TheVariants as refusal
 use Rattle.units.proofs.Cond.{either_end}
 use Rattle.raft_log.specs.declared.Log.{Log}
-use Rattle.raft_log.specs.declared.Changed.{Changed}
-use Rattle.raft_log.specs.declared.Changed.TheVariants as changed
-use Rattle.raft_log.specs.declared.Decided.{Decided}
-use Rattle.raft_log.specs.declared.Decided.TheVariants as decided
-use Rattle.raft_log.specs.declared.Extended.{Extended}
-use Rattle.raft_log.specs.declared.Extended.TheVariants as extended
 use Rattle.raft_log.specs.declared.Appended.{Appended}
-use Rattle.raft_log.specs.declared.Appended.TheVariants as appended
 use Rattle.raft_log.specs.Words.{store_term, none, zero_at}
 use Rattle.raft_log.specs.State.{Good, broken, last_of}
 use Rattle.raft_log.specs.Append.{with_committed, maybe_append, maybe_append_store}
@@ -27,6 +20,8 @@ use Rattle.raft_log.specs.Setup.{fresh, setup_ok, settled_zero, new_log}
 use Rattle.raft_log.proofs.States.{neither, whole_good}
 use Rattle.raft_log.proofs.Setups.{SetsUp, ok_sets_up}
 use Rattle.log_laws.specs.Keep.{AfterChanged, AfterDecided, AfterExtended, AfterAppended}
+use Rattle.std.specs.Prelude.{Ok, Err, Some, None, Option}
+use Rattle.units.specs.Refusals.{Answer}
 
 -- ---- set-up
 
@@ -35,17 +30,17 @@ pub after_new : (P : Log → List ℕ → List ℕ → Type 0) (start startterm 
     → AfterChanged P (new_log start startterm last settled) settled pending
 unfolding new_log
 after_new P start startterm last settled pending made =
-    let Then : Changed → Type 0 = λ a. AfterChanged P a settled pending in
+    let Then : Answer Log → Type 0 = λ a. AfterChanged P a settled pending in
     either_end Then (not (setup_ok start startterm last settled)) (λ _. tt) (λ h.
     either_end Then (settled_zero settled (last - start)) (λ _. tt) (λ z. made (ok_sets_up start startterm last settled (not-false _ h)) (not-false _ z)))
 
 module _ (P : Log → List ℕ → List ℕ → Type 0) (l : Log) (settled pending : List ℕ) where
   -- ---- the calls that move one number: of the log as it was, where the answer is that, and of the log with the number moved
 
-  abbrev Then : Changed → Type 0
+  abbrev Then : Answer Log → Type 0
   Then x = AfterChanged P x settled pending
 
-  abbrev ThenBy : Decided → Type 0
+  abbrev ThenBy : Answer (Option Log) → Type 0
   ThenBy x = AfterDecided P x settled pending
 
   pub after_commit_to : (i : ℕ) → (Good l settled pending → P l settled pending)
@@ -69,7 +64,7 @@ module _ (P : Log → List ℕ → List ℕ → Type 0) (l : Log) (settled pendi
       moved good (ltb-false _ _ within.1) (ltb-false _ _ within.0))))
 
   if_yes : (test : Bool) (after : Log) → (Good l settled pending → test ≡ true → P after settled pending)
-      → ThenBy (cond (broken l settled pending) (decided.Refused broken_state) (cond test (decided.Yes after) decided.No))
+      → ThenBy (cond (broken l settled pending) (Err refusal.BrokenState) (cond test (Ok (Some after)) (Ok None)))
   if_yes test after moved =
       either_end ThenBy (broken l settled pending) (λ _. tt) (λ h. either_end ThenBy test (moved (whole_good l settled pending h)) (λ _. tt))
 
@@ -89,27 +84,27 @@ module _ (P : Log → List ℕ → List ℕ → Type 0) (l : Log) (settled pendi
 
   -- ---- the calls that write: of the log and the store that an answer which is no refusal says
 
-  pub after_stable_entries : (i t : ℕ) → ((a : Log) → stable_entries l settled pending i t ≡ changed.Now a → P a (stable_entries_store (changed.Now a) l settled pending) pending)
+  pub after_stable_entries : (i t : ℕ) → ((a : Log) → stable_entries l settled pending i t ≡ Ok a → P a (stable_entries_store (Ok a) l settled pending) pending)
       → AfterChanged P (stable_entries l settled pending i t) (stable_entries_store (stable_entries l settled pending i t) l settled pending) pending
   after_stable_entries i t done = by_answer (stable_entries l settled pending i t) refl
     where
-      by_answer : (x : Changed) → stable_entries l settled pending i t ≡ x → AfterChanged P x (stable_entries_store x l settled pending) pending
-      by_answer (changed.Now a) e = done a e
-      by_answer (changed.Refused number) e = tt
+      by_answer : (x : Answer Log) → stable_entries l settled pending i t ≡ x → AfterChanged P x (stable_entries_store x l settled pending) pending
+      by_answer (Ok a) e = done a e
+      by_answer (Err number) e = tt
 
-  pub after_append : (run : List ℕ) → ((m : Index) (a : Log) → append_run l settled pending run ≡ extended.Last m a → P a settled (append_run_store (extended.Last m a) pending run))
+  pub after_append : (run : List ℕ) → ((m : Index) (a : Log) → append_run l settled pending run ≡ Ok (m, a) → P a settled (append_run_store (Ok (m, a)) pending run))
       → AfterExtended P (append_run l settled pending run) settled (append_run_store (append_run l settled pending run) pending run)
   after_append run done = by_answer (append_run l settled pending run) refl
     where
-      by_answer : (x : Extended) → append_run l settled pending run ≡ x → AfterExtended P x settled (append_run_store x pending run)
-      by_answer (extended.Last m a) e = done m a e
-      by_answer (extended.Refused number) e = tt
+      by_answer : (x : Answer (Index × Log)) → append_run l settled pending run ≡ x → AfterExtended P x settled (append_run_store x pending run)
+      by_answer (Ok (m, a)) e = done m a e
+      by_answer (Err number) e = tt
 
   pub after_maybe_append : (idx term commit : ℕ) (run : List ℕ)
-      → ((c m : Index) (a : Log) → maybe_append l settled pending idx term commit run ≡ appended.Done c m a → P a settled (maybe_append_store (appended.Done c m a) pending idx run))
+      → ((a : Appended) → maybe_append l settled pending idx term commit run ≡ Ok a → P a.log settled (maybe_append_store (Ok a) pending idx run))
       → AfterAppended P (maybe_append l settled pending idx term commit run) settled (maybe_append_store (maybe_append l settled pending idx term commit run) pending idx run)
   after_maybe_append idx term commit run done = by_answer (maybe_append l settled pending idx term commit run) refl
     where
-      by_answer : (x : Appended) → maybe_append l settled pending idx term commit run ≡ x → AfterAppended P x settled (maybe_append_store x pending idx run)
-      by_answer (appended.Done c m a) e = done c m a e
-      by_answer (appended.Refused number) e = tt
+      by_answer : (x : Answer Appended) → maybe_append l settled pending idx term commit run ≡ x → AfterAppended P x settled (maybe_append_store x pending idx run)
+      by_answer (Ok a) e = done a e
+      by_answer (Err number) e = tt

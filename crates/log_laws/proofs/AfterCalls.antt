@@ -13,8 +13,6 @@ use Rattle.rules.proofs.Receiver.{cut_on}
 use Rattle.units.specs.declared.Index.{Index}
 use Rattle.units.specs.Lists.{listed}
 use Rattle.raft_log.specs.declared.Log.{Log}
-use Rattle.raft_log.specs.declared.Changed.TheVariants.{Now}
-use Rattle.raft_log.specs.declared.Extended.TheVariants.{Last}
 use Rattle.raft_log.specs.Words.{record_words, room, run_count, put_run}
 use Rattle.raft_log.specs.State.{Good, last_of, settled_count}
 use Rattle.raft_log.specs.Extend.{first_of, append_run, append_run_store}
@@ -25,6 +23,7 @@ use Rattle.raft_log.proofs.Settling.{settle_room}
 use Rattle.raft_log.proofs.Extending.{InPlace, Allowed, last_allowed}
 use Rattle.log_laws.proofs.Views.{listed_two, pasted_below, pasted_inside}
 use Rattle.log_laws.proofs.Cutting.{view_cut}
+use Rattle.std.specs.Prelude.{Ok}
 
 -- ---- `stable_entries`
 
@@ -47,8 +46,8 @@ module _ (l : Log) (settled pending : List ℕ) where
       (λ i h. pasted_inside settled (settled_count l) pending l.count here there i h ∙ ap (store_entry pending) (omega arith)))
 
   -- THE LOG IS THE SAME after its pending records went over to the settled ones.
-  pub settled_view : (i t : ℕ) (a : Log) → stable_entries l settled pending i t ≡ Now a
-      → view_of a (stable_entries_store (Now a) l settled pending) pending ≡ view_of l settled pending
+  pub settled_view : (i t : ℕ) (a : Log) → stable_entries l settled pending i t ≡ Ok a
+      → view_of a (stable_entries_store (Ok a) l settled pending) pending ≡ view_of l settled pending
   unfolding stable_entries_store
   settled_view i t a h =
       let r = settle_room l settled pending i t h in
@@ -75,7 +74,7 @@ module _ (l : Log) (settled pending run : List ℕ) where
   by_emptiness p false e = cut (whole_good l settled pending p.whole) (p.some (eqb-false _ _ e))
 
   -- THE LOG AFTER `append`: an empty run leaves it; else the records before the run's first index stay, and the run's follow.
-  pub extended_view : (i : Index) (a : Log) → append_run l settled pending run ≡ Last i a
-      → ViewExtends (eqb (length run) 0) a (append_run_store (Last i a) pending run)
+  pub extended_view : (i : Index) (a : Log) → append_run l settled pending run ≡ Ok (i, a)
+      → ViewExtends (eqb (length run) 0) a (append_run_store (Ok (i, a)) pending run)
   unfolding append_run_store
   extended_view i a h = by_emptiness (last_allowed l settled pending run h) (eqb (length run) 0) refl

@@ -11,7 +11,7 @@ use lib.ListN.{length}
 use borrow.Author.Tests.{ltb-true, ltb-false, leb-false, eqb-true, ne_eqb, not-false}
 use Rattle.units.specs.Units.{index_limit}
 use Rattle.raft_log.specs.declared.Log.{Log}
-use Rattle.raft_log.specs.declared.Changed.TheVariants as changed
+use Rattle.raft_log.specs.declared.Appended.{Appended}
 use Rattle.raft_log.specs.Words.{room, run_count}
 use Rattle.raft_log.specs.State.{Good, last_of}
 use Rattle.raft_log.specs.Run.{terms_set, misnumbered, zero_term_in}
@@ -23,12 +23,13 @@ use Rattle.raft_log.specs.Setup.{new_log}
 use Rattle.raft_log.proofs.States.{neither, whole_good}
 use Rattle.raft_log.proofs.Runs.{numbered_rises}
 use Rattle.raft_log.proofs.Conflicts.{Held, alike_held}
-use Rattle.raft_log.proofs.Appending.{held_within, done_passed}
+use Rattle.raft_log.proofs.Appending.{held_within, done_passed, said}
 use Rattle.raft_log.proofs.Extending.{InPlace, Allowed, last_allowed}
 use Rattle.raft_log.proofs.Settling.{settle_room}
 use Rattle.log_laws.specs.Keep.{AfterChanged, AfterDecided, AfterExtended, AfterAppended}
 use Rattle.log_laws.proofs.After.{after_new, after_commit_to, after_applied_to, after_maybe_commit, after_maybe_persist, after_stable_entries, after_append, after_maybe_append}
 use Rattle.log_laws.proofs.Frames.{maybe_append_length, append_length, stable_entries_length}
+use Rattle.std.specs.Prelude.{Ok}
 
 -- ---- a good log stays good where the numbers that move keep to the rules that read them
 
@@ -155,7 +156,7 @@ module _ (l : Log) (settled pending : List ℕ) where
   stable_entries_keeps i t =
       after_stable_entries Good l settled pending i t (λ a e.
       let (good, fits, same) = settle_room l settled pending i t e in
-      subst (λ (x : Log). Good x (stable_entries_store (changed.Now a) l settled pending) pending) same
+      subst (λ (x : Log). Good x (stable_entries_store (Ok a) l settled pending) pending) same
       (all_settled good fits _ (stable_entries_length l settled pending i t a e)))
 
 -- ---- the cut
@@ -244,12 +245,13 @@ module _ (l : Log) (settled pending : List ℕ) where
   pub maybe_append_keeps : (idx term commit : ℕ) (run : List ℕ)
       → AfterAppended Good (maybe_append l settled pending idx term commit run) settled (maybe_append_store (maybe_append l settled pending idx term commit run) pending idx run)
   maybe_append_keeps idx term commit run =
-      after_maybe_append Good l settled pending idx term commit run (λ c m a e.
+      after_maybe_append Good l settled pending idx term commit run (λ a e.
       let n : ℕ = run_count run in
       let k : ℕ = alike_before l settled pending idx run (run_count run) in
       let (p, answer) = done_passed l settled pending idx term commit run e in
       let g = whole_good l settled pending p.whole in
-      let same : after_message l idx n k commit ≡ a = cc answer in
+      let taken : said idx n k (after_message l idx n k commit) ≡ a = cc answer in
+      let same : after_message l idx n k commit ≡ a.log = ap (λ (x : Appended). x.log) taken in
       same_room
       (subst (λ (x : Log). Good x settled pending) same
       (message_good g idx n k commit p.spares (last_held g idx term run p.inside p.matches p.formed.1) (numbered_rises run idx (not-false _ p.formed.0)).limited p.room))

@@ -10,19 +10,20 @@ use borrow.Author.Tests.{lt-ltb, le-ltb, le-leb, lt-leb, ne_eqb, eqb-true, ltb-f
 use lib.Dec.{ltb, eqb, leb}
 use lib.ListN.{length, get_or, drop, drop_of_length-le}
 use Rattle.rules.specs.Log.{Entry, nothing, Log as Abstract, last}
-use Rattle.rules.specs.Receiver.{Answer, reply_false, success, contains, conflicts, with_entries, delete_from, step_3, step_4, step_5, receiver}
+use Rattle.rules.specs.Receiver.{Answer as Reply, reply_false, success, contains, conflicts, with_entries, delete_from, step_3, step_4, step_5, receiver}
 use Rattle.rules.proofs.Receiver.{conflict_at, step_3_keeps, step_3_deletes, delete_none, cut_on, steps, raised}
 use Rattle.units.specs.Units.{index_of}
 use Rattle.units.specs.declared.Index.{Index}
-use Rattle.units.specs.Refusals.{outside_log, mismatch}
+use Rattle.units.specs.declared.refusal.Refusal.{Refusal}
+use Rattle.units.specs.declared.refusal.Refusal.TheVariants as refusal
 use Rattle.units.specs.Lists.{listed}
 use Rattle.units.proofs.Cond.{both_ends, past}
+use Rattle.units.proofs.Checks.{other_refusal}
 use Rattle.units.proofs.Never.{never}
 use Rattle.units.proofs.Numbers.{below_or_not}
 use Rattle.units.proofs.Lists.{length-listed, at_listed, drop-listed}
 use Rattle.raft_log.specs.declared.Log.{Log}
 use Rattle.raft_log.specs.declared.Appended.{Appended}
-use Rattle.raft_log.specs.declared.Appended.TheVariants.{Done, Refused}
 use Rattle.raft_log.specs.Words.{room, run_count, run_term, first_from, zero_at, put_run}
 use Rattle.raft_log.specs.State.{Good, last_of, broken, term_at}
 use Rattle.raft_log.specs.Run.{misnumbered, zero_term_in, terms_set}
@@ -31,9 +32,12 @@ use Rattle.log_laws.specs.View.{run_entry, run_entries, view_of, message_of}
 use Rattle.raft_log.proofs.States.{refuted, neither, whole_good}
 use Rattle.raft_log.proofs.Searching.{found}
 use Rattle.raft_log.proofs.Conflicts.{alike_held}
-use Rattle.raft_log.proofs.Appending.{decide_refuses, far_refused, held_within, other_refusal, done_passed}
+use Rattle.raft_log.proofs.Appending.{decide_refuses, far_refused, held_within, done_passed}
 use Rattle.log_laws.proofs.Cutting.{view_cut}
 use Rattle.log_laws.proofs.Views.{view_last, view_term}
+use Rattle.std.specs.Prelude.{Ok, Err}
+use Rattle.std.specs.Result.{IfOk}
+use Rattle.units.specs.Refusals.{Answer, number_of}
 
 -- ---- step 2
 
@@ -162,7 +166,7 @@ module _ (l : Log) (settled pending : List ℕ) (good : Good l settled pending) 
     abbrev result : Bool → Abstract
     result b =
         view_of (after b) settled
-        (maybe_append_store (Done (index_of (cond b (idx + 1 + k) 0)) (index_of (idx + n)) (after b)) pending idx run)
+        (maybe_append_store (Ok (record { conflict = index_of (cond b (idx + 1 + k) 0); last = index_of (idx + n); log = after b })) pending idx run)
 
     result_none : v ≡ result false
     unfolding maybe_append_store view_of
@@ -199,7 +203,7 @@ cut_committed b l conflict last = both_ends (λ (x : Log). x.committed ≡ l.com
 
 module _ (l : Log) (settled pending : List ℕ) (idx term commit : ℕ) (run : List ℕ) where
   -- what the paper's receiver answers
-  abbrev pub by_the_paper : Answer
+  abbrev pub by_the_paper : Reply
   by_the_paper = receiver (view_of l settled pending) l.committed.0 (message_of idx term commit run)
 
   -- A log and a pending store after the message are what the steps say; and committed is not lowered.
@@ -208,9 +212,8 @@ module _ (l : Log) (settled pending : List ℕ) (idx term commit : ℕ) (run : L
     pub steps : by_the_paper ≡ success (view_of after settled store) commit_index
     pub committed : after.committed.0 ≡ max l.committed.0 commit_index
 
-  abbrev TakenBy : Appended → Type 0
-  TakenBy (Done c m a) = Taken a (maybe_append_store (Done c m a) pending idx run)
-  TakenBy (Refused r) = Unit {0}
+  abbrev TakenBy : Answer Appended → Type 0
+  TakenBy answer = IfOk answer (λ a. Taken a.log (maybe_append_store (Ok a) pending idx run))
 
   abbrev count : ℕ
   count = run_count run
@@ -240,33 +243,33 @@ module _ (l : Log) (settled pending : List ℕ) (idx term commit : ℕ) (run : L
       }
 
   -- THE THEOREM, where the message is taken: the steps of the paper, in order.
-  pub taken : (c m : Index) (a : Log) → maybe_append l settled pending idx term commit run ≡ Done c m a → Taken a (maybe_append_store (Done c m a) pending idx run)
-  taken c m a h =
+  pub taken : (a : Appended) → maybe_append l settled pending idx term commit run ≡ Ok a → Taken a.log (maybe_append_store (Ok a) pending idx run)
+  taken a h =
       let (passed, answer) = done_passed l settled pending idx term commit run h in
       let good = whole_good l settled pending passed.whole in
       subst TakenBy answer (accepted_taken good passed.inside passed.matches (not-false _ passed.formed.1) passed.room)
 
   -- and where it is refused by 4 or 5: step 2 replies false
-  pub refused : (s : ℕ) → (s ≡ outside_log) ⊎ (s ≡ mismatch) → maybe_append l settled pending idx term commit run ≡ Refused s → by_the_paper ≡ reply_false
+  pub refused : (s : Refusal) → (s ≡ refusal.OutsideLog) ⊎ (s ≡ refusal.Mismatch) → maybe_append l settled pending idx term commit run ≡ Err s → by_the_paper ≡ reply_false
   unfolding maybe_append match_run decide receiver
   refused s w h =
-      let low : outside_log ≤ s = ⊎_elim (λ e. omega arith) (λ e. omega arith) w in
-      let high : s ≤ mismatch = ⊎_elim (λ e. omega arith) (λ e. omega arith) w in
-      let b1 = past (broken l settled pending) (other_refusal (omega arith)) h in
-      let b2 = past (misnumbered run idx) (other_refusal (omega arith)) b1.1 in
-      let b3 = past (zero_term_in run) (other_refusal (omega arith)) b2.1 in
+      let low : 4 ≤ number_of s = ⊎_elim (λ e. omega (arith, ap number_of e)) (λ e. omega (arith, ap number_of e)) w in
+      let high : number_of s ≤ 5 = ⊎_elim (λ e. omega (arith, ap number_of e)) (λ e. omega (arith, ap number_of e)) w in
+      let b1 = past (broken l settled pending) (other_refusal (λ q. omega arith)) h in
+      let b2 = past (misnumbered run idx) (other_refusal (λ q. omega arith)) b1.1 in
+      let b3 = past (zero_term_in run) (other_refusal (λ q. omega arith)) b2.1 in
       let good = whole_good l settled pending b1.0 in
       let gone : contains (view_of l settled pending) idx term ≡ false = refuted _ (λ there.
       let both = neither (outside l idx term) (mismatched l settled pending idx term) (sym (step_2_is l settled pending good idx term) ∙ there) in
-      let decided = sym (ap₂ (λ (x y : Bool). cond x (Refused outside_log) (cond y (Refused mismatch) (decide l pending idx commit count alike))) both.0 both.1) ∙ b3.1 in
-      omega (arith, decide_refuses l pending idx commit count alike decided)) in
+      let decided = sym (ap₂ (λ (x y : Bool). cond x (Err refusal.OutsideLog) (cond y (Err refusal.Mismatch) (decide l pending idx commit count alike))) both.0 both.1) ∙ b3.1 in
+      ⊎_elim (λ e. omega (arith, ap number_of e)) (λ e. omega (arith, ap number_of e)) (decide_refuses l pending idx commit count alike decided)) in
       ap
       (λ (b : Bool). cond b (success (step_4 (step_3 (view_of l settled pending) (idx + 1) (run_entries run)) idx (run_entries run)) (step_5 l.committed.0 commit (idx + length (run_entries run)))) reply_false)
       gone
 
   tests : (a b : Bool) → outside l idx term ≡ a → mismatched l settled pending idx term ≡ b → not (a || b) ≡ false
       → broken l settled pending ≡ false → misnumbered run idx ≡ false → zero_term_in run ≡ false
-      → (maybe_append l settled pending idx term commit run ≡ Refused outside_log) ⊎ (maybe_append l settled pending idx term commit run ≡ Refused mismatch)
+      → (maybe_append l settled pending idx term commit run ≡ Err refusal.OutsideLog) ⊎ (maybe_append l settled pending idx term commit run ≡ Err refusal.Mismatch)
   unfolding maybe_append match_run
   tests true b o p h h1 h2 h3 = inl (simp (h1, h2, h3, o))
   tests false true o p h h1 h2 h3 = inr (simp (h1, h2, h3, o, p))
@@ -274,7 +277,7 @@ module _ (l : Log) (settled pending : List ℕ) (idx term commit : ℕ) (run : L
 
   -- and back: where step 2 replies false to a message that 1, 2 and 3 let through, it is refused by 4 or 5
   pub refuses : broken l settled pending ≡ false → misnumbered run idx ≡ false → zero_term_in run ≡ false → by_the_paper ≡ reply_false
-      → (maybe_append l settled pending idx term commit run ≡ Refused outside_log) ⊎ (maybe_append l settled pending idx term commit run ≡ Refused mismatch)
+      → (maybe_append l settled pending idx term commit run ≡ Err refusal.OutsideLog) ⊎ (maybe_append l settled pending idx term commit run ≡ Err refusal.Mismatch)
   unfolding receiver
   refuses h1 h2 h3 h =
       let good = whole_good l settled pending h1 in

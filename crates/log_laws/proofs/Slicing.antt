@@ -8,9 +8,8 @@ use native.Mathlib.Omega.{arith}
 use lib.Dec.{eqb, leb, ltb}
 use borrow.Author.Tests.{eqb-true, eqb-false, ltb-true, ltb-false, leb-true, leb-false, le-ltb}
 use Rattle.units.specs.Units.{index_of, word_max}
-use Rattle.units.specs.Refusals.{broken_state}
+use Rattle.units.specs.declared.refusal.Refusal.TheVariants as refusal
 use Rattle.units.specs.declared.Index.{Index}
-use Rattle.units.specs.declared.YesOrNo.TheVariants as yes_or_no
 use Rattle.units.proofs.Cond.{either_end}
 use Rattle.units.proofs.Numbers.{below_or_not}
 use Rattle.rules.specs.Log.{Log as Abstract, last}
@@ -25,6 +24,8 @@ use Rattle.raft_log.proofs.States.{good_whole, whole_good, not_both, refuted}
 use Rattle.raft_log.proofs.Slices.{none_between, in_pending_lem, slice_inside, next_test, next_true, entries_none, next_none}
 use Rattle.log_laws.proofs.Views.{view_start, view_last, entry_settled, entry_pending}
 use Rattle.log_laws.proofs.Ranges.{part_reads, joined_reads}
+use Rattle.std.specs.Prelude.{Ok, Err}
+use Rattle.units.specs.Refusals.{Answer}
 
 module _ (l : Log) (settled pending : List ℕ) where
   abbrev view : Abstract
@@ -45,15 +46,15 @@ module _ (l : Log) (settled pending : List ℕ) where
         view (omega (arith, view_start l settled pending)) (omega (arith, view_last l settled pending good))
         (λ i a b. entry_pending l settled pending good i (omega arith) (omega arith) (omega arith))
 
-  module _ (low high : ℕ) (None : Type 0) where
-    abbrev Given : Bounds → Type 0
-    Given = Gives l settled pending low high None
+  module _ (low high : ℕ) (there_is_none : Type 0) where
+    abbrev Given : Answer Bounds → Type 0
+    Given = Gives l settled pending low high there_is_none
 
-    unless_broken : (x : Bounds) → (Good l settled pending → Given x) → Given (cond (broken l settled pending) (bounds.Refused broken_state) x)
+    unless_broken : (x : Answer Bounds) → (Good l settled pending → Given x) → Given (cond (broken l settled pending) (Err refusal.BrokenState) x)
     unless_broken x f =
         either_end Given (broken l settled pending) (λ t q. not_both t (good_whole l settled pending q.good)) (λ b. f (whole_good l settled pending b))
 
-    in_store_lem : Good l settled pending → l.start.0 < low → low ≤ high → high ≤ last_of l + 1 → (low ≡ high → None) → Given (in_store l low high)
+    in_store_lem : Good l settled pending → l.start.0 < low → low ≤ high → high ≤ last_of l + 1 → (low ≡ high → there_is_none) → Given (in_store l low high)
     unfolding in_store part_of
     in_store_lem good h k m none =
         let first : view.start < low = omega (arith, view_start l settled pending) in
@@ -69,7 +70,7 @@ module _ (l : Log) (settled pending : List ℕ) where
         record { asked = asked; starts = refl; ends = refl; some = omega arith; reads = settled_reads good low (min high l.offset.0) (omega arith) h (omega arith) })
         (λ u. record { asked = asked; starts = refl; ends = refl; some = omega arith; reads = pending_reads good low high k (ltb-false _ _ u) m }))
 
-    in_range : Good l settled pending → (low ≡ high → None) → Given (slice_in l low high)
+    in_range : Good l settled pending → (low ≡ high → there_is_none) → Given (slice_in l low high)
     unfolding slice_in
     in_range good none =
         either_end Given (ltb high low)
@@ -100,7 +101,7 @@ module _ (l : Log) (settled pending : List ℕ) where
 
   module _ (s : ℕ) where
     abbrev says_no : Type 0
-    says_no = has_next_entries_since l settled pending s ≡ yes_or_no.Is false
+    says_no = has_next_entries_since l settled pending s ≡ Ok false
 
     -- 01: "`next_entries_since` gives that range as a slice, or nothing".
     pub next_gives : Gives l settled pending (next_low l s) (next_high l) says_no (next_entries_bounds_since l settled pending s)
@@ -116,18 +117,18 @@ module _ (l : Log) (settled pending : List ℕ) where
 
   module _ (good : Good l settled pending) where
     -- The converse: where there is none, a good log answers `Empty`.
-    pub slice_empty : (low : ℕ) → view.start < low → low ≤ last view + 1 → slice_bounds l settled pending low low ≡ bounds.Empty
+    pub slice_empty : (low : ℕ) → view.start < low → low ≤ last view + 1 → slice_bounds l settled pending low low ≡ Ok bounds.Empty
     unfolding slice_bounds
     slice_empty low h k =
         rw (good_whole l settled pending good)
         (slice_inside l low low (omega arith) (omega (arith, view_start l settled pending)) (omega (arith, view_last l settled pending good)) ∙ none_between l low low refl)
 
-    pub entries_empty : (i : ℕ) → last view < i → entries_bounds l settled pending i ≡ bounds.Empty
+    pub entries_empty : (i : ℕ) → last view < i → entries_bounds l settled pending i ≡ Ok bounds.Empty
     entries_empty i h = entries_none l settled pending i (good_whole l settled pending good) (omega (arith, view_last l settled pending good))
 
-    pub next_empty : (s : ℕ) → says_no s → next_entries_bounds_since l settled pending s ≡ bounds.Empty
+    pub next_empty : (s : ℕ) → says_no s → next_entries_bounds_since l settled pending s ≡ Ok bounds.Empty
     unfolding has_next_entries_since
-    next_empty s h = next_none l settled pending s (good_whole l settled pending good) (let no : yes_or_no.Is (has_next l s) ≡ yes_or_no.Is false = rw (good_whole l settled pending good) at h in cc)
+    next_empty s h = next_none l settled pending s (good_whole l settled pending good) (let no : Ok (has_next l s) ≡ Ok false = rw (good_whole l settled pending good) at h in cc)
 
     next_rule : (s : ℕ) → has_next l s ≡ ltb (next_low l s) (next_high l)
     next_rule s =
@@ -136,20 +137,20 @@ module _ (l : Log) (settled pending : List ℕ) where
         (below_or_not s word_max)
 
     -- 01, `has_next_entries_since(s)`: "min(committed, persisted) + 1 > max(s + 1, start + 1)". That the answer is no for s = u64::MAX follows from the limit of indices.
-    pub has_next_rule : (s : ℕ) → has_next_entries_since l settled pending s ≡ yes_or_no.Is (ltb (next_low l s) (next_high l))
+    pub has_next_rule : (s : ℕ) → has_next_entries_since l settled pending s ≡ Ok (ltb (next_low l s) (next_high l))
     unfolding has_next_entries_since
     has_next_rule s = rw (good_whole l settled pending good, next_rule s)
 
 -- PARTS JOINED (01: "Oracle runs join such parts and compare the whole"): where an answer of any of the three calls ended before high, it ended at the store boundary, a slice from there on reaches high, and both parts together are the whole range.
-module _ (l : Log) (settled pending : List ℕ) (low high : ℕ) (None : Type 0) (answer : Bounds) (given : Gives l settled pending low high None answer)
-    {from to : Index} (e : answer ≡ bounds.Settled from to) (short : to.0 < high) where
-  first_part : Part l settled pending low high (min high l.offset.0) from to (part_of (bounds.Settled from to) l settled pending)
-  first_part = subst (Gives l settled pending low high None) e given
+module _ (l : Log) (settled pending : List ℕ) (low high : ℕ) (there_is_none : Type 0) (answer : Answer Bounds) (given : Gives l settled pending low high there_is_none answer)
+    {from to : Index} (e : answer ≡ Ok (bounds.Settled from to)) (short : to.0 < high) where
+  first_part : Part l settled pending low high (min high l.offset.0) from to (part_of (Ok (bounds.Settled from to)) l settled pending)
+  first_part = subst (Gives l settled pending low high there_is_none) e given
 
   pub at_boundary : to.0 ≡ l.offset.0
   at_boundary = omega (arith, first_part.ends)
 
-  pub goes_on : slice_bounds l settled pending to.0 high ≡ bounds.Pending to (index_of high)
+  pub goes_on : slice_bounds l settled pending to.0 high ≡ Ok (bounds.Pending to (index_of high))
   unfolding slice_bounds
   goes_on =
       let asked = first_part.asked in
@@ -162,7 +163,7 @@ module _ (l : Log) (settled pending : List ℕ) (low high : ℕ) (None : Type 0)
   joined =
       let p = first_part in
       let asked = p.asked in
-      let q : Part l settled pending to.0 high high to (index_of high) (part_of (bounds.Pending to (index_of high)) l settled pending) =
+      let q : Part l settled pending to.0 high high to (index_of high) (part_of (Ok (bounds.Pending to (index_of high))) l settled pending) =
       subst (Gives l settled pending to.0 high (to.0 ≡ high)) goes_on (slice_gives l settled pending to.0 high) in
       rw (e, goes_on)
       (joined_reads _ _ (view_of l settled pending) low to.0 high asked.first (omega (arith, p.some)) (omega arith) asked.final p.reads q.reads)

@@ -97,8 +97,8 @@ module _ (l : Log) (settled pending : List ℕ) (set : TermsSet l settled pendin
   pub maybe_append_terms : (idx term commit : ℕ) (run : List ℕ)
       → AfterAppended TermsSet (maybe_append l settled pending idx term commit run) settled (maybe_append_store (maybe_append l settled pending idx term commit run) pending idx run)
   maybe_append_terms idx term commit run =
-      after_maybe_append TermsSet l settled pending idx term commit run (λ c m a e.
-      subst AfterSteps (taken l settled pending idx term commit run c m a e).steps
+      after_maybe_append TermsSet l settled pending idx term commit run (λ a e.
+      subst AfterSteps (taken l settled pending idx term commit run a e).steps
       (receiver_nonzero _ l.committed.0 (message_of idx term commit run) set (run_set run (done_passed l settled pending idx term commit run e).0.formed.1)))
 
 -- ---- where the term is 0

@@ -1,6 +1,7 @@
 -- What `slice`, `entries` and `next_entries_since` give, said of the list of records that the state and the words stand for (View.antt). A reader must know: bounds are log indices, and the words that a call returns are those that `part_of` names (raft_log/specs/Slice.antt).
-use Rattle.std.specs.Prelude.{ℕ, ◌+◌, ◌-◌, ◌*◌, ◌≤◌, ◌<◌, min, ◌≡◌, List, length}
+use Rattle.std.specs.Prelude.{ℕ, ◌+◌, ◌-◌, ◌*◌, ◌≤◌, ◌<◌, min, ◌≡◌, List, length, Ok, Err}
 use Rattle.units.specs.declared.Index.{Index}
+use Rattle.units.specs.Refusals.{Answer}
 use Rattle.rules.specs.Log.{Entry, Log as Abstract, last, records_after}
 use Rattle.raft_log.specs.declared.Log.{Log}
 use Rattle.raft_log.specs.declared.Bounds.{Bounds}
@@ -34,11 +35,11 @@ pub record Part (l : Log) (settled pending : List ℕ) (low high end : ℕ) (fro
   pub some : low < to.0
   pub reads : Reads (view_of l settled pending) low to.0 words
 
--- What bounds say in answer to the question for the records from low up to high ("one call answers the refusal or the bounds"): `Empty`, that there is `None`; `Settled`, a part that ends at high or at the store boundary; `Pending`, one that ends at high; a refusal, that the question is not askable. (`Empty` and a refusal have no words, by `part_of`.)
-abbrev pub Gives : Log → List ℕ → List ℕ → ℕ → ℕ → Type 0 → Bounds → Type 0
-Gives l settled pending low high None bounds.Empty = None
-Gives l settled pending low high None (bounds.Settled from to) =
-    Part l settled pending low high (min high l.offset.0) from to (part_of (bounds.Settled from to) l settled pending)
-Gives l settled pending low high None (bounds.Pending from to) =
-    Part l settled pending low high high from to (part_of (bounds.Pending from to) l settled pending)
-Gives l settled pending low high None (bounds.Refused number) = Askable l settled pending low high → ⊥
+-- What bounds say in answer to the question for the records from low up to high ("one call answers the refusal or the bounds"): `Empty`, that `there_is_none`; `Settled`, a part that ends at high or at the store boundary; `Pending`, one that ends at high; a refusal, that the question is not askable. (`Empty` and a refusal have no words, by `part_of`.)
+abbrev pub Gives : Log → List ℕ → List ℕ → ℕ → ℕ → Type 0 → Answer Bounds → Type 0
+Gives l settled pending low high there_is_none (Ok bounds.Empty) = there_is_none
+Gives l settled pending low high there_is_none (Ok (bounds.Settled from to)) =
+    Part l settled pending low high (min high l.offset.0) from to (part_of (Ok (bounds.Settled from to)) l settled pending)
+Gives l settled pending low high there_is_none (Ok (bounds.Pending from to)) =
+    Part l settled pending low high high from to (part_of (Ok (bounds.Pending from to)) l settled pending)
+Gives l settled pending low high there_is_none (Err number) = Askable l settled pending low high → ⊥

@@ -6,6 +6,7 @@ use mathlib.Core.List.{List, [], ◌∷◌}
 use native.Mathlib.Omega.{arith}
 use lib.Dec.{eqb, lit<, lit≤}
 use lib.ListN.{get_or}
+use Rattle.std.specs.Prelude.{Some, None}
 use Rattle.units.specs.Units.{index_of}
 use Rattle.rules.specs.Count.{count}
 use Rattle.rules.specs.Log.{Entry, entry, whole_list, Same}
@@ -17,8 +18,6 @@ use Rattle.quorum.specs.Half.{half_index}
 use Rattle.quorum.specs.Joint.{one_set, joint_committed_index}
 use Rattle.quorum.specs.declared.joint.JointConfig.{JointConfig}
 use Rattle.quorum.specs.declared.rows.Peer.{Peer}
-use Rattle.quorum.specs.declared.rows.Ack.TheVariants as ack
-use Rattle.quorum.specs.declared.rows.Vote.TheVariants as vote
 use Rattle.raft_log.specs.Append.{with_committed}
 use Rattle.raft_log.specs.Commit.{maybe_commit}
 use Rattle.raft_log.specs.Setup.{fresh, setup_ok, new_log}
@@ -45,7 +44,7 @@ abbrev config : JointConfig
 config = one_set (set_of (1 ∷ 2 ∷ 3 ∷ []))
 
 abbrev at_one : ℕ → Peer
-at_one id = record { id = id; ack = ack.At (index_of 1); vote = vote.Missing }
+at_one id = record { id = id; ack = Some (index_of 1); vote = None }
 
 abbrev peers : List Peer
 peers = at_one 1 ∷ at_one 2 ∷ []
@@ -79,7 +78,7 @@ has_accepted = record {
   before_possible = tt;
   message = cut the_list 0 1 0;
   cut = record { count = 1; inside = lit≤ tt; is = refl };
-  accepts = (_, _, _, refl, refl);
+  accepts = (_, refl, refl);
   since = [];
   since_possible = tt;
   is_now = refl;

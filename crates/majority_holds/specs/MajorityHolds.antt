@@ -1,7 +1,7 @@
 -- DEMAND 3, THE LEADER'S SIDE, as a statement: what a site has acknowledged, the leader may count; so an index that the quorums call committed is held, record for record, by a majority of every half that has voters.
 -- A reader must know: crate two_ends says what one follower holds once it has accepted a message of the leader's; here a site stands for each id, and the lent rows say what the sites have acknowledged. The list xs is "all that the list ever comes to hold".
 -- It is not the paper's Leader Completeness (figure 3): there is one leader, and no election.
-use Rattle.std.specs.Prelude.{ℕ, ◌≤◌, ◌<◌, max, ◌≡◌, Bool, true, false, List, ◌⊎◌, length}
+use Rattle.std.specs.Prelude.{ℕ, ◌≤◌, ◌<◌, max, ◌≡◌, Bool, true, false, List, ◌⊎◌, length, Ok, Some}
 use Rattle.units.specs.Units.{index_of}
 use Rattle.rules.specs.Majority.{ByMajority}
 use Rattle.rules.specs.Log.{Entry, whole_list, last, Holds, Same, Agree}
@@ -9,12 +9,10 @@ use Rattle.quorum.specs.Ids.{distinct}
 use Rattle.quorum.specs.Voters.{voters_of}
 use Rattle.quorum.specs.Majority.{committed_index, match_index}
 use Rattle.quorum.specs.Joint.{joint_committed_index}
-use Rattle.quorum.specs.declared.Committed.TheVariants as found
 use Rattle.quorum.specs.declared.majority.Voters.{Voters}
 use Rattle.quorum.specs.declared.joint.JointConfig.{JointConfig}
 use Rattle.quorum.specs.declared.rows.Peer.{Peer}
 use Rattle.raft_log.specs.declared.Log.{Log}
-use Rattle.raft_log.specs.declared.Decided.TheVariants as decided
 use Rattle.leader.specs.Leader.{leader_commit}
 use Rattle.two_ends.specs.Follower.{Follower, held, Message, engine, Event, follow}
 use Rattle.two_ends.specs.Leader.{CutFrom}
@@ -68,10 +66,10 @@ pub record MayCount (xs : List Entry) (sites : ℕ → Follower) (peers : List P
   -- what a site has acknowledged, it holds
   pub counted_held : (id : ℕ) → 0 < match_index peers id → Agree (held (sites id)) (whole_list xs) (match_index peers id)
   -- what the leader's step commits (figure 2: "a majority of matchIndex[i] ≥ N"), a majority holds
-  pub committed_held : (leader : Follower) (term : ℕ) (config : JointConfig) (after : Log) → leader_commit leader.log leader.settled leader.pending term config peers ≡ decided.Yes after
+  pub committed_held : (leader : Follower) (term : ℕ) (config : JointConfig) (after : Log) → leader_commit leader.log leader.settled leader.pending term config peers ≡ Ok (Some after)
       → HeldByHalves xs sites config after.committed.0
   -- and so what the quorums answer to whoever asks: of a joint configuration, of one set. Of 0 nothing is said: who has acknowledged nothing counts as 0, and need not hold a thing.
-  pub joint_held : (config : JointConfig) (n : ℕ) → 0 < n → joint_committed_index config peers ≡ found.At (index_of n) false → HeldByHalves xs sites config n
-  pub set_held : (v : Voters) (n : ℕ) → 0 < n → committed_index v peers ≡ found.At (index_of n) false → HeldByMajority xs sites (voters_of v) n
+  pub joint_held : (config : JointConfig) (n : ℕ) → 0 < n → joint_committed_index config peers ≡ Ok (index_of n, false) → HeldByHalves xs sites config n
+  pub set_held : (v : Voters) (n : ℕ) → 0 < n → committed_index v peers ≡ Ok (index_of n, false) → HeldByMajority xs sites (voters_of v) n
   -- "we couldn't show that every site held the same records": two sites that hold up to n have the same records, wherever both have them
   pub none_differ : (n a b : ℕ) → HoldsUpTo xs (sites a) n → HoldsUpTo xs (sites b) n → (j : ℕ) → j ≤ n → (held (sites a)).start ≤ j → (held (sites b)).start ≤ j → Same (held (sites a)) (held (sites b)) j

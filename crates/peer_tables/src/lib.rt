@@ -1,13 +1,13 @@
 #![tactic(auto)]
-// Peer rows by value, for callers that hold them in an array. The quorum questions read lent rows: `lend` lends a table's, for the call only.
+// Peer rows by value, for callers that hold them in an array. The quorum questions read lent rows: a table lends its own.
 pub mod joint;
-mod lend;
 pub mod majority;
 
-ghost use Rattle.std.specs.Prelude.{◌≡◌};
-ghost use Rattle.peer_tables.specs.Table.{no_rows, with_row};
+ghost use Rattle.std.specs.Prelude.{◌≡◌, MatchResult};
+ghost use Rattle.peer_tables.specs.Table.{no_rows, with_row, rows_lent};
 
-use quorum::rows::{Ack, Peer, Rows, Vote};
+use quorum::rows::{Peer, Rows};
+use units::refusal::Refusal;
 
 // The rows: the first `count`. A count over the limit says only that there were too many.
 #[derive(Clone, Copy)]
@@ -22,8 +22,8 @@ impl Table {
     {
         let nobody = Peer {
             id: 0,
-            ack: Ack::Missing,
-            vote: Vote::Missing,
+            ack: None,
+            vote: None,
         };
         Table {
             peers: [nobody; Rows::LIMIT],
@@ -32,21 +32,27 @@ impl Table {
     }
 
     // One row more. Where the table is full, the row is not kept, and the count is one over the limit from then on.
-    pub fn with(self, peer: Peer) -> Table
+    pub fn with(mut self, peer: Peer) -> Table
         ensures { result ≡ with_row self peer }
     {
-        let mut peers = self.peers;
-        let count = self.count;
-        if Rows::LIMIT <= count {
-            return Table {
-                peers,
-                count: Rows::LIMIT + 1,
-            };
+        if Rows::LIMIT <= self.count {
+            self.count = Rows::LIMIT + 1;
+            return self;
         }
-        peers[count] = peer;
-        Table {
-            peers,
-            count: count + 1,
+        self.peers[self.count] = peer;
+        self.count += 1;
+        self
+    }
+
+    // The rows, lent for as long as the table is: 12 where there were too many.
+    pub fn rows(&self) -> Result<&[Peer], Refusal>
+        ensures { MatchResult result
+            (λ rows. Ok rows.now ≡ rows_lent self.now)
+            (λ refusal. Err refusal ≡ rows_lent self.now) }
+    {
+        if Rows::LIMIT < self.count {
+            return Err(Refusal::BrokenSet);
         }
+        Ok(&self.peers[..self.count])
     }
 }

@@ -3,27 +3,21 @@ ghost use Rattle.std.specs.Prelude.{◌≡◌};
 ghost use Rattle.peer_tables.specs.Table.{table_committed_index, table_vote_result};
 
 use crate::Table;
+use quorum::VoteResult;
 use quorum::majority::Voters;
-use quorum::rows::Rows;
-use quorum::{Committed, Verdict};
-use units::refusal::BROKEN_SET;
+use units::Index;
+use units::refusal::Refusal;
 
 // How far a majority has acknowledged, by the table's rows.
-pub fn committed_index(voters: Voters, table: Table) -> Committed
+pub fn committed_index(voters: Voters, table: Table) -> Result<(Index, bool), Refusal>
     ensures { result ≡ table_committed_index voters table }
 {
-    if Rows::LIMIT < table.count {
-        return Committed::Refused(BROKEN_SET);
-    }
-    crate::lend::committed_index(voters, table)
+    quorum::majority::committed_index(voters, table.rows()?)
 }
 
 // How the vote stands, by the table's rows.
-pub fn vote_result(voters: Voters, table: Table) -> Verdict
+pub fn vote_result(voters: Voters, table: Table) -> Result<VoteResult, Refusal>
     ensures { result ≡ table_vote_result voters table }
 {
-    if Rows::LIMIT < table.count {
-        return Verdict::Refused(BROKEN_SET);
-    }
-    crate::lend::vote_result(voters, table)
+    quorum::majority::vote_result(voters, table.rows()?)
 }

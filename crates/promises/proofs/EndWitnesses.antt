@@ -23,7 +23,6 @@ use Rattle.two_ends.specs.CatchUp.{Round, total, sending, AtEach, CaughtUp, Catc
 use Rattle.two_ends.specs.Sanity.{leader, log_with, settled_words, follower, late, third, heartbeat, from_zero, corrected, refuses_all, commits_blindly}
 use Rattle.two_ends.proofs.Carried.{made_sound}
 use Rattle.raft_log.proofs.States.{refuted}
-use Rattle.raft_log.proofs.Appending.{no_done}
 use Rattle.two_ends.proofs.Cuts.{sent_cut}
 use Rattle.two_ends.proofs.Main.{two_ends}
 use Rattle.two_ends.proofs.World.{none_sent, in_time}
@@ -136,11 +135,11 @@ not_previous h = let low = h.0.0 in omega arith
 
 pub accepts : Accepts (engine follower third) 3
 unfolding concrete
-accepts = (_, _, _, refl, refl)
+accepts = (_, refl, refl)
 
 pub accepts_not : (k : ℕ) → Accepts (engine late from_zero) k → ⊥
 unfolding concrete
-accepts_not k (conflict, named, after, e, q) = never cc
+accepts_not k (said, e, q) = never cc
 
 -- ---- the promises
 
@@ -220,8 +219,8 @@ pub refusing_not_in_time : TheoremInTime refuses_all → ⊥
 unfolding concrete TheoremInTime history History next
 refusing_not_in_time th =
     let here = th world (none_sent leader) [] [] [] tt tt tt follower_premises in
-    let (k, (conflict, named, after, e, q)) = ((here.of_message third).accepts third_cut).1 (holds_previous, has_room) in
-    no_done e
+    let (k, (said, e, q)) = ((here.of_message third).accepts third_cut).1 (holds_previous, has_room) in
+    never cc
 
 -- ---- the majority that holds (majority_holds/proofs/Example.antt has honest rows, and what they lead to)
 

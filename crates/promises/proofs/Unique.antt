@@ -1,5 +1,6 @@
 -- Two answers that meet a promise are equal: a law for every public call of every library crate, in the order and under the headings of docs/PROMISES.md, each by `one_answer`.
 -- A law takes what the call takes, a lent slice as the words in it. Its promise is the contract's: r is the answer, and log' is what the call leaves of `log`.
+-- A law words_.. is that of the call of exports_c, whose answer is a number: 0 or the refusal's. Of the call of its name in exports, which answers the refusal itself, the law is `of_a_result` or `of_a_check` of that one.
 use Prim.Native.Nat.{ℕ, ◌≤◌, ◌<◌, min}
 use mathlib.Core.Path.{◌≡◌, sym, ap, ◌∙◌}
 use mathlib.Core.List.{List, [], ◌∷◌}
@@ -7,10 +8,11 @@ use lib.ListN.{length, get_or}
 use lib.Seq.{sets}
 use native.Mathlib.Omega.{arith}
 use Rattle.units.specs.Units.{index_of, as_term}
-use Rattle.units.specs.Refusals.{refusal_of, both_checks}
+use Rattle.units.specs.Refusals.{Answer, Check, number_of, refusal_of, both_checks}
+use Rattle.units.specs.declared.refusal.Refusal.{Refusal}
+use Rattle.units.proofs.Refusals.{refusal_apart}
 use Rattle.units.specs.declared.Index.{Index}
 use Rattle.units.specs.declared.Term.{Term}
-use Rattle.units.specs.declared.Check.{Check}
 use Rattle.quorum.specs.Voters.{no_voters, made as made_set, set_of, voters_check}
 use Rattle.rules.specs.Majority.{falling}
 use Rattle.quorum.specs.Votes.{joint_result}
@@ -18,22 +20,18 @@ use Rattle.quorum.specs.Half.{half_index, joined, numbers_result}
 use Rattle.quorum.specs.Majority.{committed_index, vote_result, plain_committed_index, plain_vote_result}
 use Rattle.quorum.specs.Joint.{one_set, config_check, is_singleton, contains_of, joint_ids, joint_committed_index, joint_vote_result, plain_joint_committed_index, plain_joint_vote_result}
 use Rattle.quorum.specs.Rows.{gathered, plain_check, value_for, ack_number, vote_number}
-use Rattle.quorum.specs.declared.Committed.{Committed}
 use Rattle.quorum.specs.declared.VoteResult.{VoteResult}
 use Rattle.quorum.specs.declared.half.Half.{Half}
 use Rattle.quorum.specs.declared.majority.Voters.{Voters}
 use Rattle.quorum.specs.declared.joint.JointConfig.{JointConfig}
-use Rattle.quorum.specs.declared.rows.Ack.{Ack}
-use Rattle.quorum.specs.declared.rows.Vote.{Vote}
 use Rattle.quorum.specs.declared.rows.Peer.{Peer}
 use Rattle.quorum.specs.declared.rows.Question.{Question}
 use Rattle.quorum.specs.declared.rows.Rows.{Rows}
-use Rattle.peer_tables.specs.Table.{no_rows, with_row, table_committed_index, table_vote_result, table_joint_committed_index, table_joint_vote_result}
+use Rattle.peer_tables.specs.Table.{no_rows, with_row, rows_lent, table_committed_index, table_vote_result, table_joint_committed_index, table_joint_vote_result}
 use Rattle.peer_tables.specs.declared.Table.{Table}
 use Rattle.inflights.specs.Calls.{made_window, capped, fullness, added, ring_after, freed_to, freed_first, cleared, rewound, counted}
 use Rattle.inflights.specs.InPlace.{step_of, Stored}
 use Rattle.inflights.specs.declared.Inflights.{Inflights}
-use Rattle.inflights.specs.declared.Step.{Step}
 use Rattle.raft_log.specs.Setup.{new_log}
 use Rattle.raft_log.specs.Look.{look_term, first_index, last_index, last_term, commit_info, is_up_to_date, find_conflict_by_term}
 use Rattle.raft_log.specs.Append.{maybe_append, maybe_append_store}
@@ -49,6 +47,7 @@ use Rattle.exports.specs.Reads.{term_leaves, first_index_leaves, last_index_leav
 use Rattle.exports.specs.QuorumCalls.{majority_committed_index_leaves, joint_committed_index_leaves, majority_vote_result_leaves, joint_vote_result_leaves, is_singleton_leaves, contains_leaves, joint_ids_leaves, clear_leaves, voters_refusal, joint_refusal, rows_refusal, leader_commit_leaves}
 use Rattle.exports.specs.WindowCalls.{new_window_leaves, set_cap_leaves, add_leaves, free_to_leaves, free_first_one_leaves, reset_leaves, maybe_free_buffer_leaves, full_leaves, count_leaves}
 use Rattle.promises.specs.Unique.{OneAnswer, OneOutcome}
+use Rattle.std.specs.Prelude.{Option, Bool, Ok, Err, MatchResult}
 
 -- THE LAW: a promise says that the answer is one function of the inputs, so any two answers are that function's value.
 pub one_answer : {A : Type 0} {promised : A} → OneAnswer (◌≡ promised)
@@ -61,9 +60,9 @@ one_outcome left a b x y p q =
     (same, one_answer x y p.1 (q.1 ∙ ap left (sym same)))
 
 -- A window changed in place, and the ring.
-one_window_and_ring : {step : Step} {words : List ℕ} → OneOutcome (λ r (w', ring'). Stored r w' step × (ring' ≡ words))
+one_window_and_ring : {step : Check × Inflights} {words : List ℕ} → OneOutcome (λ r (w', ring'). Stored r w' step × (ring' ≡ words))
 one_window_and_ring {step} a b x y p q =
-    let window = one_outcome (λ r. step.window) a b x.0 y.0 p.0 q.0 in
+    let window = one_outcome (λ r. step.1) a b x.0 y.0 p.0 q.0 in
     let ring = one_answer x.1 y.1 p.1 q.1 in
     (window.0, λ i. (window.1 i, ring i))
 
@@ -83,6 +82,24 @@ two_slices a b x y = read_alike (λ l. (get_or l 0 [], get_or l 1 [])) a b _ _
 three_slices : {promised : Outcome} → OneOutcome (λ r (x, y, z). leaves r (x ∷ y ∷ z ∷ []) ≡ promised)
 three_slices a b x y = read_alike (λ l. (get_or l 0 [], get_or l 1 [], get_or l 2 [])) a b _ _
 
+-- Where an answer is the refusal itself, and the promise speaks of its number: what is one outcome by the number is one by the refusal, since no two refusals have the same number, and none has 0.
+pub of_a_result : {B : Type 0} {P : ℕ → B → Type 0} → OneOutcome P → OneOutcome (λ (r : Check) x. P (refusal_of r) x)
+of_a_result one a b x y p q =
+    let same = one (refusal_of a) (refusal_of b) x y p q in
+    (refusal_apart a b same.0, same.1)
+
+-- The same of a call that leaves nothing beside its answer.
+pub of_a_check : {P : ℕ → Type 0} → OneAnswer P → OneAnswer (λ (r : Check). P (refusal_of r))
+of_a_check one a b p q = refusal_apart a b (one (refusal_of a) (refusal_of b) p q)
+
+-- A refusal, or what is read of a slice that the call lends on: its contract says each by an equation of its own.
+one_lent : {A : Type 0} (promised : Answer A) → OneAnswer (λ r. MatchResult r (λ read. Ok read ≡ promised) (λ refusal. Err refusal ≡ promised))
+one_lent {A} promised a b p q = one_answer a b (either a p) (either b q)
+  where
+    either : (r : Answer A) → MatchResult r (λ read. Ok read ≡ promised) (λ refusal. Err refusal ≡ promised) → r ≡ promised
+    either (Ok read) said = said
+    either (Err refusal) said = said
+
 -- ---- units
 
 pub index_new : (number : ℕ) → OneAnswer (◌≡ index_of number)
@@ -90,6 +107,9 @@ index_new number = one_answer
 
 pub term_new : (number : ℕ) → OneAnswer (◌≡ as_term number)
 term_new number = one_answer
+
+pub refusal_number : (self : Refusal) → OneAnswer (◌≡ number_of self)
+refusal_number self = one_answer
 
 pub check_refusal : (self : Check) → OneAnswer (◌≡ refusal_of self)
 check_refusal self = one_answer
@@ -192,10 +212,10 @@ rows_checked self = one_answer
 pub rows_value : (peer : Peer) (question : Question) → OneAnswer (◌≡ value_for question peer)
 rows_value peer question = one_answer
 
-pub rows_ack_number : (ack : Ack) → OneAnswer (◌≡ ack_number ack)
+pub rows_ack_number : (ack : Option Index) → OneAnswer (◌≡ ack_number ack)
 rows_ack_number ack = one_answer
 
-pub rows_vote_number : (vote : Vote) → OneAnswer (◌≡ vote_number vote)
+pub rows_vote_number : (vote : Option Bool) → OneAnswer (◌≡ vote_number vote)
 rows_vote_number vote = one_answer
 
 -- ---- peer_tables: rows by value
@@ -205,6 +225,9 @@ table_empty = one_answer
 
 pub table_with_lem : (self : Table) (peer : Peer) → OneAnswer (◌≡ with_row self peer)
 table_with_lem self peer = one_answer
+
+pub table_rows : (self : Table) → OneAnswer (λ r. MatchResult r (λ rows. Ok rows ≡ rows_lent self) (λ refusal. Err refusal ≡ rows_lent self))
+table_rows self = one_lent (rows_lent self)
 
 pub table_committed_index_lem : (voters : Voters) (table : Table) → OneAnswer (◌≡ table_committed_index voters table)
 table_committed_index_lem voters table = one_answer
@@ -248,7 +271,7 @@ module _ (self : Inflights) (ring : List ℕ) where
   pub inflights_count : OneAnswer (◌≡ counted self (length ring))
   inflights_count = one_answer
 
--- in_place: r is the number that is returned, w' the window that is left.
+-- in_place: r is what is returned, w' the window that is left.
 module _ (w : Inflights) (ring : List ℕ) where
   pub in_place_set_cap : (cap : ℕ) → OneOutcome (λ r w'. Stored r w' (step_of w (capped w (length ring) cap)))
   in_place_set_cap cap = one_outcome _
@@ -268,7 +291,7 @@ module _ (w : Inflights) (ring : List ℕ) where
   pub in_place_maybe_free_buffer : OneOutcome (λ r w'. Stored r w' (step_of w (rewound w (length ring))))
   in_place_maybe_free_buffer = one_outcome _
 
--- bridge: r is the window that is left, with that number.
+-- The two as one value.
 module _ (w : Inflights) (ring : List ℕ) where
   pub bridge_set_cap : (cap : ℕ) → OneAnswer (◌≡ step_of w (capped w (length ring) cap))
   bridge_set_cap cap = one_answer
@@ -365,10 +388,10 @@ module _ (log : Log) (settled pending : List ℕ) (term : Term) where
   pub leader_maybe_commit : (config : JointConfig) (peers : List Peer) → OneAnswer (◌≡ leader_commit log settled pending term.0 config peers)
   leader_maybe_commit config peers = one_answer
 
-  pub leader_commit_found : (found : Committed) → OneAnswer (◌≡ commit_found log settled pending term.0 found)
+  pub leader_commit_found : (found : Answer (Index × Bool)) → OneAnswer (◌≡ commit_found log settled pending term.0 found)
   leader_commit_found found = one_answer
 
--- ---- exports: every call over words
+-- ---- exports: every call over words, as exports_c answers it
 
 pub words_log_new : (start startterm last : ℕ) (settled pending log : List ℕ) → OneOutcome (λ r log'. leaves r (log' ∷ []) ≡ new_log_leaves start startterm last settled log)
 words_log_new start startterm last settled pending log = one_slice
@@ -493,6 +516,27 @@ module _ (window ring : List ℕ) where
 
   pub words_inflights_count : (answer : List ℕ) → OneOutcome (λ r answer'. leaves r (answer' ∷ []) ≡ count_leaves window ring answer)
   words_inflights_count answer = one_slice
+
+-- The calls of exports: of one for each number of slices that a call may write, and of each that answers a check alone. Those of the others follow likewise.
+module _ (log settled pending : List ℕ) where
+  pub result_log_commit_to : (i : ℕ) → OneOutcome (λ r log'. leaves (refusal_of r) (log' ∷ []) ≡ commit_to_leaves log settled pending i)
+  result_log_commit_to i = of_a_result (words_log_commit_to log settled pending i)
+
+  pub result_log_maybe_commit : (i t : ℕ) (answer : List ℕ) → OneOutcome (λ r (log', answer'). leaves (refusal_of r) (log' ∷ answer' ∷ []) ≡ maybe_commit_leaves log settled pending i t answer)
+  result_log_maybe_commit i t answer = of_a_result (words_log_maybe_commit log settled pending i t answer)
+
+  pub result_log_maybe_append : (idx term commit : ℕ) (run answer : List ℕ)
+      → OneOutcome (λ r (pending', log', answer'). leaves (refusal_of r) (pending' ∷ log' ∷ answer' ∷ []) ≡ maybe_append_leaves log settled pending idx term commit run answer)
+  result_log_maybe_append idx term commit run answer = of_a_result (words_log_maybe_append log settled pending idx term commit run answer)
+
+pub result_voters_checked : (voters : List ℕ) → OneAnswer (λ r. refusal_of r ≡ voters_refusal voters)
+result_voters_checked voters = of_a_check (words_voters_checked voters)
+
+pub result_joint_checked : (incoming outgoing : List ℕ) → OneAnswer (λ r. refusal_of r ≡ joint_refusal incoming outgoing)
+result_joint_checked incoming outgoing = of_a_check (words_joint_checked incoming outgoing)
+
+pub result_rows_checked : (rows : List ℕ) → OneAnswer (λ r. refusal_of r ≡ rows_refusal rows)
+result_rows_checked rows = of_a_check (words_rows_checked rows)
 
 -- ---- lists: what the replay programs share
 

@@ -9,9 +9,8 @@ use native.Mathlib.Omega.{arith}
 use lib.Dec.{eqb, lit<, lit≤}
 use lib.ListN.{get_or}
 use Rattle.units.specs.Units.{word_max, index_of, as_term}
-use Rattle.units.specs.Refusals.{out_of_range, window_full}
+use Rattle.units.specs.declared.refusal.Refusal.TheVariants as refusal
 use Rattle.units.specs.Lists.{listed}
-use Rattle.units.specs.declared.Check.TheVariants as check
 use Rattle.units.proofs.Never.{never}
 use Rattle.rules.specs.Count.{Reordered, keep, swap, then}
 use Rattle.rules.specs.Log.{Entry, nothing, Log as Abstract, entry_at, Holds}
@@ -21,8 +20,6 @@ use Rattle.rules.proofs.Majority.{committed_commits}
 use Rattle.quorum.specs.Voters.{set_of, no_voters}
 use Rattle.quorum.specs.Votes.{Ends, free, yea, none as no-votes, Sure, Hopeless}
 use Rattle.quorum.specs.Joint.{one_set}
-use Rattle.quorum.specs.declared.rows.Vote.{Vote}
-use Rattle.quorum.specs.declared.rows.Vote.TheVariants as vote
 use Rattle.quorum.specs.declared.joint.JointConfig.{JointConfig}
 use Rattle.quorum.specs.declared.rows.Peer.{Peer}
 use Rattle.quorum_laws.specs.JointRule.{Backs, JointCommits, Wins, Loses}
@@ -37,15 +34,14 @@ use Rattle.inflights.specs.Ring.{InRing}
 use Rattle.inflights.specs.Calls.{capped}
 use Rattle.inflights.specs.Queue.{AllAtMost, BeginsAbove, Frees, IsFull, NeverBroken}
 use Rattle.inflights.specs.InPlace.{step_of, Stored}
-use Rattle.inflights.specs.declared.Deferred.TheVariants.{Nothing, Cap}
 use Rattle.inflights.proofs.Facts.{window_sound}
 use Rattle.inflights.proofs.Stays.{never_broken}
 use Rattle.raft_log.specs.State.{Good}
 use Rattle.raft_log.specs.Run.{check_run}
 use Rattle.raft_log.specs.Append.{with_committed}
 use Rattle.raft_log.specs.Setup.{setup_ok, new_log}
+use Rattle.units.specs.Refusals.{fine, number_of}
 use Rattle.raft_log.specs.declared.Bounds.TheVariants as bounds
-use Rattle.raft_log.specs.declared.Changed.TheVariants as changed
 use Rattle.raft_log.proofs.States.{ok_good}
 use Rattle.raft_log.proofs.Setups.{SetsUp, ok_sets_up}
 use Rattle.raft_log.proofs.Runs.{Rises, Passed, run_passed}
@@ -72,6 +68,7 @@ use Rattle.exports.proofs.Results.{log_new_tells}
 use Rattle.two_ends.specs.Sanity.{log_with}
 use Rattle.promises.specs.Cases.{log_a, settled_a, pending_a, message, voters_from, id_twice, acking, three_and_two, window, old, flown}
 use Rattle.promises.proofs.Apart.{log_promises, quorum_promises, window_promises}
+use Rattle.std.specs.Prelude.{Ok, Err, Some, None, Option, Bool}
 
 -- ---- majorities
 
@@ -120,14 +117,14 @@ other_voters s = let same : ◌≡◌ {A = ℕ} 2 3 = s.as_many in omega arith
 -- ---- votes
 
 -- Two yes and one missing; two no and one missing; one yes and two missing.
-abbrev sure_votes : List Vote
-sure_votes = vote.Yes ∷ vote.Yes ∷ vote.Missing ∷ []
+abbrev sure_votes : List (Option Bool)
+sure_votes = Some true ∷ Some true ∷ None ∷ []
 
-abbrev lost_votes : List Vote
-lost_votes = vote.No ∷ vote.No ∷ vote.Missing ∷ []
+abbrev lost_votes : List (Option Bool)
+lost_votes = Some false ∷ Some false ∷ None ∷ []
 
-abbrev open_votes : List Vote
-open_votes = vote.Yes ∷ vote.Missing ∷ vote.Missing ∷ []
+abbrev open_votes : List (Option Bool)
+open_votes = Some true ∷ None ∷ None ∷ []
 
 -- The missing votes can end as a yes and a no; what was a yes can't end as a no.
 pub may_end : Ends open_votes (true ∷ true ∷ false ∷ [])
@@ -146,9 +143,9 @@ pub nobody_sure : Sure [] → ⊥
 unfolding quorum_promises
 nobody_sure s = let h = s [] no-votes in omega arith
 
-pub may_not_end : Ends (vote.Yes ∷ []) (false ∷ []) → ⊥
+pub may_not_end : Ends (Some true ∷ []) (false ∷ []) → ⊥
 unfolding quorum_promises
-may_not_end e = let h = (won_exactly_if_sure (vote.Yes ∷ []) (lit< tt)).0 refl (false ∷ []) e in omega arith
+may_not_end e = let h = (won_exactly_if_sure (Some true ∷ []) (lit< tt)).0 refl (false ∷ []) e in omega arith
 
 pub hopeless : Hopeless lost_votes
 unfolding quorum_promises
@@ -231,8 +228,8 @@ pub joint_not_whole : JointWhole three_and_two (acking five ++ acking five) → 
 unfolding quorum_promises
 joint_not_whole w = never cc
 
-pub not_only_twelve : OnlyTwelve (check.Refused window_full) → ⊥
-not_only_twelve twelve = let z : ◌≡◌ {A = ℕ} 11 12 = twelve 11 refl in omega arith
+pub not_only_twelve : OnlyTwelve (Err refusal.WindowFull) → ⊥
+not_only_twelve twelve = let z : ◌≡◌ {A = ℕ} 11 12 = ap number_of (twelve refusal.WindowFull refl) in omega arith
 
 -- A configuration of nobody, and one of five.
 pub no_voters_lem : NoVoters (one_set no_voters)
@@ -263,15 +260,15 @@ unfolding window_promises AllAtMost BeginsAbove
 windows = tt
 
 -- "cap 4, flights 5,5,6: set_cap(2) defers": the state rules of the window hold there, a deferred cap below the cap among them.
-pub window_rules : Sound (window 0 3 (Cap 2)) 4
+pub window_rules : Sound (window 0 3 (Some 2)) 4
 unfolding windows
-window_rules = window_sound (window 0 3 (Cap 2)) 4 refl
+window_rules = window_sound (window 0 3 (Some 2)) 4 refl
 
 -- A start outside the ring; a deferred cap that is not below the cap.
-pub start_outside : Sound (window 4 0 Nothing) 4 → ⊥
+pub start_outside : Sound (window 4 0 None) 4 → ⊥
 start_outside s = omega (arith, s.start_ring)
 
-pub not_waits : Waits (Cap 4) 3 4 → ⊥
+pub not_waits : Waits (Some 4) 3 4 → ⊥
 not_waits w = omega (arith, w.0)
 
 -- The last word of a ring of 4, and a whole turn behind it; a start in no ring of 4.
@@ -291,29 +288,29 @@ unfolding windows
 not_frees f = let h = f.stops in omega arith
 
 -- "set_cap(2) defers and is full"; after free_to(5) "not full".
-pub is_full_lem : IsFull (window 0 3 (Cap 2)) 3
+pub is_full_lem : IsFull (window 0 3 (Some 2)) 3
 is_full_lem = inr (lit≤ tt)
 
-pub is_not_full : IsFull (window 2 1 (Cap 2)) 1 → ⊥
+pub is_not_full : IsFull (window 2 1 (Some 2)) 1 → ⊥
 is_not_full = ⊎_elim (λ e. omega arith) (λ r. omega arith)
 
 -- No call refuses that window with 13; each refuses one whose start is outside.
-pub window_stays : NeverBroken (window 0 3 (Cap 2)) flown
+pub window_stays : NeverBroken (window 0 3 (Some 2)) flown
 unfolding windows
-window_stays = never_broken (window 0 3 (Cap 2)) flown refl
+window_stays = never_broken (window 0 3 (Some 2)) flown refl
 
-pub window_broken : NeverBroken (window 4 0 Nothing) flown → ⊥
+pub window_broken : NeverBroken (window 4 0 None) flown → ⊥
 unfolding windows
 window_broken n = n.count refl
 
 -- In place: 0 and the new window are stored; the new window beside a refusal's number is not what is promised.
-pub stored : Stored 0 (window 0 3 (Cap 2)) (step_of (window 0 3 Nothing) (capped (window 0 3 Nothing) 4 2))
+pub stored : Stored fine (window 0 3 (Some 2)) (step_of (window 0 3 None) (capped (window 0 3 None) 4 2))
 unfolding windows
 stored = (refl, refl)
 
-pub not_stored : Stored 7 (window 0 3 (Cap 2)) (step_of (window 0 3 Nothing) (capped (window 0 3 Nothing) 4 2)) → ⊥
+pub not_stored : Stored (Err refusal.NoRoom) (window 0 3 (Some 2)) (step_of (window 0 3 None) (capped (window 0 3 None) 4 2)) → ⊥
 unfolding windows
-not_stored s = let z : ◌≡◌ {A = ℕ} 7 0 = s.0 in omega arith
+not_stored s = never cc
 
 -- ---- log A
 
@@ -378,7 +375,7 @@ unfolding logs
 not_reads r = let z : ◌≡◌ {A = ℕ} 9 3 = ap (λ (es : List Entry). (get_or es 0 nothing).body) r.same in omega arith
 
 -- What may be asked for is given: a refusal is no answer to it.
-pub not_gives : Gives log_a settled_a pending_a 3 6 ⊥ (bounds.Refused out_of_range) → ⊥
+pub not_gives : Gives log_a settled_a pending_a 3 6 ⊥ (Err refusal.OutOfRange) → ⊥
 not_gives never = never askable
 
 -- Word 1 belongs to the first record of a store, so it stays where the second is written; word 2 does not.
@@ -411,11 +408,11 @@ held_before = record { good = good_A; within = (lit≤ tt, lit≤ tt); set = ref
 pub not_held_before : Held log_a settled_a pending_a 6 [] 0 → ⊥
 not_held_before h = omega (arith, h.within.1)
 
-pub cut : Cut 4 3 3 (index_of 5) (index_of 6) (log_with 4 3 4 3)
+pub cut : Cut 4 3 3 (record { conflict = index_of 5; last = index_of 6; log = log_with 4 3 4 3 })
 unfolding logs
 cut = answer_cut log_a settled_a pending_a 3 2 4 message refl (λ e. omega arith)
 
-pub not_cut : Cut 4 3 3 (index_of 0) (index_of 6) (log_with 4 3 4 3) → ⊥
+pub not_cut : Cut 4 3 3 (record { conflict = index_of 0; last = index_of 6; log = log_with 4 3 4 3 }) → ⊥
 not_cut c = omega (arith, c.follows)
 
 pub extends : Extends 4 6 1 (log_with 4 3 2 3)
@@ -449,16 +446,16 @@ store_holds = record { above = lit≤ tt; order = lit≤ tt; below = lit≤ tt }
 pub store_holds_not : StoreHolds pending_a 4 3 6 → ⊥
 store_holds_not h = omega (arith, h.above)
 
--- So bounds of it name a part that is there; a refusal by the number 0 would not be one.
-pub sound_bounds : NamesHeld (bounds.Pending (index_of 4) (index_of 6)) log_a settled_a pending_a
+-- So bounds of it name a part that is there, and those of record 3 do not.
+pub sound_bounds : NamesHeld (Ok (bounds.Pending (index_of 4) (index_of 6))) log_a settled_a pending_a
 sound_bounds = store_holds
 
-pub unsound_bounds : NamesHeld (bounds.Refused 0) log_a settled_a pending_a → ⊥
-unsound_bounds never = never refl
+pub unsound_bounds : NamesHeld (Ok (bounds.Pending (index_of 3) (index_of 6))) log_a settled_a pending_a → ⊥
+unsound_bounds = store_holds_not
 
 -- A call that took all in leaves 0, which tells that it refused nothing; 0 beside a refusal would not tell it.
-pub tells : Tells changed.Refused (new_log 0 0 3 settled_a) (old ∷ []) (new_log_leaves 0 0 3 settled_a old)
+pub tells : Tells (new_log 0 0 3 settled_a) (old ∷ []) (new_log_leaves 0 0 3 settled_a old)
 tells = log_new_tells 0 0 3 settled_a old
 
-pub tells_not : Tells changed.Refused (changed.Refused 1) (old ∷ []) (leaves 0 (old ∷ [])) → ⊥
-tells_not t = t.taken refl 1 refl
+pub tells_not : Tells {A = Unit {0}} (Err refusal.BrokenState) (old ∷ []) (leaves 0 (old ∷ [])) → ⊥
+tells_not t = t.taken refl refusal.BrokenState refl

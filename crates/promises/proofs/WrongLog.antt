@@ -3,8 +3,6 @@ use Prim.Native.Nat.{ℕ}
 use mathlib.Core.Path.{refl}
 use mathlib.Core.List.{List, [], ◌∷◌}
 use Rattle.raft_log.specs.declared.Appended.{Appended}
-use Rattle.raft_log.specs.declared.Extended.{Extended}
-use Rattle.raft_log.specs.declared.Decided.{Decided}
 use Rattle.raft_log.specs.declared.Bounds.{Bounds}
 use Rattle.leader.specs.Leader.{leader_commit}
 use Rattle.two_ends.specs.Follower.{Follower, Message, Reception, engine}
@@ -14,18 +12,22 @@ use Rattle.exports.specs.LogCalls.{appended_leaves, extended_leaves, changed_lea
 use Rattle.promises.specs.Cases.{log_a, settled_a, pending_a, message}
 use Rattle.promises.specs.WrongLog.{WrongLog, WrongEnginesLog}
 use Rattle.promises.proofs.Apart.{log_promises, quorum_promises, apart_as, apart_by, blank, as_store}
+use Rattle.std.specs.Prelude.{Option}
+use Rattle.units.specs.Refusals.{Answer}
+use Rattle.raft_log.specs.declared.Log.{Log}
+use Rattle.units.specs.declared.Index.{Index}
 
 -- An answer that leaves two slices, and bounds, as words.
-abbrev appended : Appended → Outcome
+abbrev appended : Answer Appended → Outcome
 appended said = appended_leaves said blank blank
 
-abbrev extended : Extended → Outcome
+abbrev extended : Answer (Index × Log) → Outcome
 extended said = extended_leaves said blank blank
 
-abbrev decided : Decided → Outcome
+abbrev decided : Answer (Option Log) → Outcome
 decided said = decided_leaves said blank blank
 
-abbrev bounds : Bounds → Outcome
+abbrev bounds : Answer Bounds → Outcome
 bounds said = bounds_leaves said log_a blank
 
 pub wrong_log : WrongLog

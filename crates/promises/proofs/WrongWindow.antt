@@ -4,18 +4,18 @@ use mathlib.Core.Path.{refl}
 use mathlib.Core.List.{List}
 use lib.ListN.{get_or}
 use Rattle.rules.specs.Count.{count}
-use Rattle.inflights.specs.declared.Deferred.{Deferred}
-use Rattle.inflights.specs.declared.Deferred.TheVariants.{Nothing, Cap}
 use Rattle.exports.specs.Words.{yes_or_no_leaves}
 use Rattle.exports.specs.WindowCalls.{window_leaves, counted_leaves}
+use Rattle.units.specs.Refusals.{refusal_of}
 use Rattle.promises.specs.Cases.{old}
 use Rattle.promises.specs.WrongWindow.{empty, three, large_first, WrongWindow, WrongEnginesWindow}
 use Rattle.promises.proofs.Apart.{window_promises, apart, apart_by}
+use Rattle.std.specs.Prelude.{Some, None, Option}
 
 -- What is read off a deferred cap.
-abbrev deferred_in : Deferred → ℕ
-deferred_in Nothing = 0
-deferred_in (Cap c) = suc c
+abbrev deferred_in : Option ℕ → ℕ
+deferred_in None = 0
+deferred_in (Some c) = suc c
 
 -- And off a ring.
 abbrev first_word : List ℕ → ℕ
@@ -43,32 +43,32 @@ wrong_window = record {
   maybe_free_buffer_not_empty = apart_by window_leaves refl;
   count_cap = apart_by counted_leaves refl;
   count_broken = apart_by counted_leaves refl;
-  in_place_set_cap_no_refusal = λ both. apart (λ n. n) refl both.0;
+  in_place_set_cap_no_refusal = λ both. apart refusal_of refl both.0;
   in_place_set_cap_changed = λ both. apart (λ w. w.cap) refl both.1;
-  in_place_add_no_refusal = λ both. apart (λ n. n) refl both.0;
+  in_place_add_no_refusal = λ both. apart refusal_of refl both.0;
   in_place_add_changed = λ both. apart (λ w. w.count) refl both.1;
   in_place_add_not_written = λ both. apart first_word refl both.1;
-  in_place_free_to_no_refusal = λ both. apart (λ n. n) refl both.0;
+  in_place_free_to_no_refusal = λ both. apart refusal_of refl both.0;
   in_place_free_to_changed = λ both. apart (λ w. w.count) refl both.1;
-  in_place_free_first_one_no_refusal = λ both. apart (λ n. n) refl both.0;
+  in_place_free_first_one_no_refusal = λ both. apart refusal_of refl both.0;
   in_place_free_first_one_changed = λ both. apart (λ w. w.count) refl both.1;
-  in_place_reset_no_refusal = λ both. apart (λ n. n) refl both.0;
+  in_place_reset_no_refusal = λ both. apart refusal_of refl both.0;
   in_place_reset_changed = λ both. apart (λ w. w.count) refl both.1;
-  in_place_maybe_free_buffer_no_refusal = λ both. apart (λ n. n) refl both.0;
+  in_place_maybe_free_buffer_no_refusal = λ both. apart refusal_of refl both.0;
   in_place_maybe_free_buffer_changed = λ both. apart (λ w. w.start) refl both.1;
-  bridge_set_cap_no_refusal = apart (λ s. s.code) refl;
-  bridge_set_cap_unchanged = apart (λ s. deferred_in s.window.deferred) refl;
-  bridge_add_no_refusal = apart (λ s. s.code) refl;
-  bridge_add_unchanged = apart (λ s. s.window.count) refl;
+  bridge_set_cap_no_refusal = apart (λ s. refusal_of s.0) refl;
+  bridge_set_cap_unchanged = apart (λ s. deferred_in s.1.deferred) refl;
+  bridge_add_no_refusal = apart (λ s. refusal_of s.0) refl;
+  bridge_add_unchanged = apart (λ s. s.1.count) refl;
   bridge_add_not_written = λ both. apart first_word refl both.1;
-  bridge_free_to_no_refusal = apart (λ s. s.code) refl;
-  bridge_free_to_unchanged = apart (λ s. s.window.count) refl;
-  bridge_free_first_one_no_refusal = apart (λ s. s.code) refl;
-  bridge_free_first_one_unchanged = apart (λ s. s.window.count) refl;
-  bridge_reset_no_refusal = apart (λ s. s.code) refl;
-  bridge_reset_unchanged = apart (λ s. s.window.count) refl;
-  bridge_maybe_free_buffer_no_refusal = apart (λ s. s.code) refl;
-  bridge_maybe_free_buffer_unchanged = apart (λ s. s.window.start) refl;
+  bridge_free_to_no_refusal = apart (λ s. refusal_of s.0) refl;
+  bridge_free_to_unchanged = apart (λ s. s.1.count) refl;
+  bridge_free_first_one_no_refusal = apart (λ s. refusal_of s.0) refl;
+  bridge_free_first_one_unchanged = apart (λ s. s.1.count) refl;
+  bridge_reset_no_refusal = apart (λ s. refusal_of s.0) refl;
+  bridge_reset_unchanged = apart (λ s. s.1.count) refl;
+  bridge_maybe_free_buffer_no_refusal = apart (λ s. refusal_of s.0) refl;
+  bridge_maybe_free_buffer_unchanged = apart (λ s. s.1.start) refl;
 }
 
 pub wrong_engines_window : WrongEnginesWindow

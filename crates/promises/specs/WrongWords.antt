@@ -1,7 +1,8 @@
 -- What the promises over words (crate exports) rule out: for each exported call two answers that a faulty boundary would leave.
 -- A reader must know: an outcome is the result and every slice that the call may write, whole, in the order store, state, values. A line says that the promise's outcome, at the input beside it, is not the wrong one; each holds by computing both sides (proofs/WrongWords.antt). `nines` are words that stood in a slice before the call.
 use Rattle.std.specs.Prelude.{ℕ, zero, suc, ◌-◌, ◌≢◌, List, [], ◌∷◌, ◌++◌, replicate}
-use Rattle.units.specs.Refusals.{broken_state, zero_term, mismatch, out_of_range, not_pending, window_full, broken_set}
+use Rattle.units.specs.Refusals.{number_of}
+use Rattle.units.specs.declared.refusal.Refusal.TheVariants as refusal
 use Rattle.raft_log.specs.declared.Log.{Log}
 use Rattle.raft_log.specs.Commit.{with_applied}
 use Rattle.raft_log.specs.Setup.{fresh}
@@ -78,13 +79,13 @@ overfull_window = 0 ∷ 5 ∷ 4 ∷ 0 ∷ 0 ∷ []
 -- THE TABLE: what each call does not leave, in the order of docs/PROMISES.md.
 pub record WrongWords : Type 0 where
   -- `log_new` over a settled record of term 0: refused, with the state written.
-  pub log_new_writes_on_refusal : new_log_leaves 0 0 1 (0 ∷ 1 ∷ []) (nines 8) ≢ leaves zero_term (state_of (fresh 0 0 1) ∷ [])
+  pub log_new_writes_on_refusal : new_log_leaves 0 0 1 (0 ∷ 1 ∷ []) (nines 8) ≢ leaves (number_of refusal.ZeroTerm) (state_of (fresh 0 0 1) ∷ [])
   -- `log_new`, start (10,4): six words written, the seventh left.
   pub log_new_six_words : new_log_leaves 10 4 10 [] (nines 8) ≢ writes (10 ∷ 4 ∷ 11 ∷ 0 ∷ 10 ∷ 10 ∷ 9 ∷ 9 ∷ [])
   -- `log_term(5)` of A with no word for the term: 0, as if it were told.
   pub log_term_no_word : call_a term_leaves 5 [] ≢ writes []
   -- `log_term(5)` of a broken state: refused, with a word written.
-  pub log_term_writes_on_refusal : term_leaves broken_a settled_a pending_a 5 (nines 2) ≢ leaves broken_state ((0 ∷ 9 ∷ []) ∷ [])
+  pub log_term_writes_on_refusal : term_leaves broken_a settled_a pending_a 5 (nines 2) ≢ leaves (number_of refusal.BrokenState) ((0 ∷ 9 ∷ []) ∷ [])
   -- `log_first_index` of A: the start, 0.
   pub log_first_index_start : call_a first_index_leaves (nines 2) ≢ writes (0 ∷ 9 ∷ [])
   -- The same: the word behind it cleared.
@@ -114,7 +115,7 @@ pub record WrongWords : Type 0 where
   -- the pending store not written.
   pub log_maybe_append_store_untouched : call_a maybe_append_leaves 3 2 4 message (nines 2) ≢ leaves 0 (pending_a ∷ state_of (log_with 4 3 4 3) ∷ (5 ∷ 6 ∷ []) ∷ [])
   -- `log_maybe_append`, idx 5, term 2, commit 9: refused, with committed raised in the state.
-  pub log_maybe_append_writes_on_refusal : call_a maybe_append_leaves 5 2 9 [] (nines 2) ≢ leaves mismatch (pending_a ∷ state_of all_committed_a ∷ nines 2 ∷ [])
+  pub log_maybe_append_writes_on_refusal : call_a maybe_append_leaves 5 2 9 [] (nines 2) ≢ leaves (number_of refusal.Mismatch) (pending_a ∷ state_of all_committed_a ∷ nines 2 ∷ [])
   -- `log_append` of (6,3) to A: the state not written back;
   pub log_append_state_untouched : call_a append_leaves (6 ∷ 3 ∷ 6 ∷ []) (nines 1) ≢ leaves 0 ((2 ∷ 4 ∷ 3 ∷ 5 ∷ 3 ∷ 6 ∷ 0 ∷ 0 ∷ []) ∷ state_of log_a ∷ (6 ∷ []) ∷ [])
   -- the run's count for the last index;
@@ -124,11 +125,11 @@ pub record WrongWords : Type 0 where
   -- `log_commit_to(3)` of A: applied moved for committed.
   pub log_commit_to_applies : call_a commit_to_leaves 3 ≢ writes (state_of (with_applied log_a 3))
   -- `log_commit_to(6)` of A: refused, with committed at the last.
-  pub log_commit_to_writes_on_refusal : call_a commit_to_leaves 6 ≢ leaves out_of_range (state_of all_committed_a ∷ [])
+  pub log_commit_to_writes_on_refusal : call_a commit_to_leaves 6 ≢ leaves (number_of refusal.OutOfRange) (state_of all_committed_a ∷ [])
   -- `log_applied_to(2)` of A: persisted moved for applied.
   pub log_applied_to_persists : call_a applied_to_leaves 2 ≢ writes (state_of (log_with 4 2 2 2))
   -- `log_applied_to(3)` of A: refused, with applied moved.
-  pub log_applied_to_writes_on_refusal : call_a applied_to_leaves 3 ≢ leaves out_of_range (state_of (with_applied log_a 3) ∷ [])
+  pub log_applied_to_writes_on_refusal : call_a applied_to_leaves 3 ≢ leaves (number_of refusal.OutOfRange) (state_of (with_applied log_a 3) ∷ [])
   -- `log_maybe_commit(3, 2)` of A: 1, with the state as it was.
   pub log_maybe_commit_state_untouched : call_a maybe_commit_leaves 3 2 (nines 1) ≢ writes_both (state_of log_a) (1 ∷ [])
   -- `log_maybe_commit(4, 3)` of A: 0, with committed moved.
@@ -140,7 +141,7 @@ pub record WrongWords : Type 0 where
   -- `log_stable_entries(5, 3)` of A with room: offset moved with nothing copied.
   pub log_stable_entries_copies_nothing : stable_entries_leaves (state_of log_a) roomy_a pending_a 5 3 ≢ writes_both roomy_a (state_of (log_with 6 0 2 3))
   -- `log_stable_entries(4, 2)` of it, not the last record: refused, with pending copied.
-  pub log_stable_entries_copies_on_refusal : stable_entries_leaves (state_of log_a) roomy_a pending_a 4 2 ≢ leaves not_pending ((settled_a ++ 2 ∷ 4 ∷ 3 ∷ 5 ∷ 8 ∷ 9 ∷ []) ∷ state_of log_a ∷ [])
+  pub log_stable_entries_copies_on_refusal : stable_entries_leaves (state_of log_a) roomy_a pending_a 4 2 ≢ leaves (number_of refusal.NotPending) ((settled_a ++ 2 ∷ 4 ∷ 3 ∷ 5 ∷ 8 ∷ 9 ∷ []) ∷ state_of log_a ∷ [])
   -- `log_slice(4, 6)` of A: settled named for pending.
   pub log_slice_other_store : call_a slice_leaves 4 6 (nines 5) ≢ writes (1 ∷ 4 ∷ 6 ∷ 0 ∷ 4 ∷ [])
   -- `log_slice(2, 6)` of A: a record of settled too many, beyond the store boundary.
@@ -188,21 +189,21 @@ pub record WrongWords : Type 0 where
   -- `joint_clear` of 1, 2, 3 and 4, 5: the outgoing half kept.
   pub joint_clear_keeps_outgoing : clear_leaves (ids_from 1 3) (ids_from 4 2) (nines 2) ≢ writes (0 ∷ 2 ∷ [])
   -- `joint_clear` where a half has an id twice: 12. It refuses no configuration.
-  pub joint_clear_refuses : clear_leaves id_twice [] (nines 2) ≢ leaves broken_set (nines 2 ∷ [])
+  pub joint_clear_refuses : clear_leaves id_twice [] (nines 2) ≢ leaves (number_of refusal.BrokenSet) (nines 2 ∷ [])
   -- `voters_checked` of eight ids: 0. It is 12.
   pub voters_checked_eight : voters_refusal (ids_from 1 (suc voter_limit)) ≢ 0
   -- `voters_checked` of seven: 12, one too early.
-  pub voters_checked_seven : voters_refusal (ids_from 1 voter_limit) ≢ broken_set
+  pub voters_checked_seven : voters_refusal (ids_from 1 voter_limit) ≢ number_of refusal.BrokenSet
   -- `joint_checked`, the outgoing half with an id twice: 0. It is 12.
   pub joint_checked_outgoing : joint_refusal (ids_from 1 3) (4 ∷ 4 ∷ []) ≢ 0
   -- `joint_checked`, an id once in each half: 12. It is 0.
-  pub joint_checked_in_both : joint_refusal (ids_from 1 3) (ids_from 3 2) ≢ broken_set
+  pub joint_checked_in_both : joint_refusal (ids_from 1 3) (ids_from 3 2) ≢ number_of refusal.BrokenSet
   -- `rows_checked` of 65 rows: 0. It is 12.
   pub rows_checked_too_many : rows_refusal (rows_of (suc row_limit)) ≢ 0
   -- `rows_checked` of 64 rows and three words more: 12. Words after the last whole row are not read.
-  pub rows_checked_spare_words : rows_refusal (rows_of row_limit ++ nines 3) ≢ broken_set
+  pub rows_checked_spare_words : rows_refusal (rows_of row_limit ++ nines 3) ≢ number_of refusal.BrokenSet
   -- `leader_maybe_commit` of a broken state with a voter that stands twice: 12 before 1.
-  pub leader_maybe_commit_12_before_1 : leader_commit_leaves broken_a settled_a pending_a 3 id_twice [] [] (nines 1) ≢ leaves broken_set (broken_a ∷ nines 1 ∷ [])
+  pub leader_maybe_commit_12_before_1 : leader_commit_leaves broken_a settled_a pending_a 3 id_twice [] [] (nines 1) ≢ leaves (number_of refusal.BrokenSet) (broken_a ∷ nines 1 ∷ [])
   -- `leader_maybe_commit` of A, term 3, two of three voters at 4: yes for record 4, which is of an earlier term.
   pub leader_maybe_commit_earlier_term : call_a leader_commit_leaves 3 (ids_from 1 3) [] (acks 1 4 ++ acks 2 4) (nines 1) ≢ writes_both (state_of (log_with 4 2 4 3)) (1 ∷ [])
   -- `inflights_new`, cap 5, a ring of 4: a window whose cap is above the ring.
@@ -216,7 +217,7 @@ pub record WrongWords : Type 0 where
   -- `inflights_add(7)` to three flights: counted, with the ring's word not written.
   pub inflights_add_only_counts : add_leaves three_flights flown 7 ≢ writes_both flown (0 ∷ 4 ∷ 4 ∷ 0 ∷ 0 ∷ [])
   -- `inflights_add(7)` to a full window: 11, with the first flight's word written.
-  pub inflights_add_writes_on_refusal : add_leaves (0 ∷ 4 ∷ 4 ∷ 0 ∷ 0 ∷ []) flown 7 ≢ leaves window_full ((7 ∷ 5 ∷ 6 ∷ 9 ∷ []) ∷ (0 ∷ 4 ∷ 4 ∷ 0 ∷ 0 ∷ []) ∷ [])
+  pub inflights_add_writes_on_refusal : add_leaves (0 ∷ 4 ∷ 4 ∷ 0 ∷ 0 ∷ []) flown 7 ≢ leaves (number_of refusal.WindowFull) ((7 ∷ 5 ∷ 6 ∷ 9 ∷ []) ∷ (0 ∷ 4 ∷ 4 ∷ 0 ∷ 0 ∷ []) ∷ [])
   -- `inflights_free_to(5)` of the flights 9, 1, 2: those behind the larger one freed.
   pub inflights_free_to_behind_larger : free_to_leaves three_flights large_first 5 ≢ writes (0 ∷ 1 ∷ 4 ∷ 0 ∷ 0 ∷ [])
   -- `inflights_free_to(5)` of 5, 5, 6: the equal ones kept.

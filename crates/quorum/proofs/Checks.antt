@@ -9,9 +9,9 @@ use lib.ListN.{length, take}
 use mir.Val.{Val}
 use denote.Laws.{Is}
 use borrow.Author.Tests.{leb-true, le-leb, lt-leb}
-use Rattle.units.specs.declared.Check.{Check}
-use Rattle.units.specs.declared.Check.TheVariants as check
-use Rattle.units.specs.Refusals.{broken_set, both_checks, unless}
+use Rattle.std.specs.Prelude.{Err}
+use Rattle.units.specs.Refusals.{both_checks, unless, Answer, Check, fine}
+use Rattle.units.specs.declared.refusal.Refusal.TheVariants as refusal
 use Rattle.units.proofs.Checks.{holds, both_fine, same_unless}
 use Rattle.units.proofs.Numbers.{below_or_not}
 use Rattle.quorum.specs.Limits.{voter_limit, row_limit}
@@ -29,19 +29,19 @@ use Rattle.quorum.proofs.Padded.{take-padded}
 
 -- Over the limit the ids don't matter; within it they alone do.
 module _ (count limit : ℕ) (ids : List ℕ) where
-  pub over_limit : limit < count → fine_if (few_distinct count limit ids) ≡ check.Refused broken_set
+  pub over_limit : limit < count → fine_if (few_distinct count limit ids) ≡ Err refusal.BrokenSet
   over_limit h = rw (lt-leb count limit h)
 
   pub in_limit : count ≤ limit → fine_if (few_distinct count limit ids) ≡ fine_if (distinct ids)
   in_limit h = rw (le-leb count limit h)
 
   -- A check that was passed: a count within the limit, and each id once.
-  module _ (fine : fine_if (few_distinct count limit ids) ≡ check.Fine) where
+  module _ (passed : fine_if (few_distinct count limit ids) ≡ fine) where
     pub within : count ≤ limit
-    within = leb-true count limit ((and-eq-true_iff (leb count limit) (distinct ids)).0 (holds _ _ fine)).0
+    within = leb-true count limit ((and-eq-true_iff (leb count limit) (distinct ids)).0 (holds _ _ passed)).0
 
     pub each_once : distinct ids ≡ true
-    each_once = ((and-eq-true_iff (leb count limit) (distinct ids)).0 (holds _ _ fine)).1
+    each_once = ((and-eq-true_iff (leb count limit) (distinct ids)).0 (holds _ _ passed)).1
 
 -- The check of an array that is as long as the limit.
 pub checked_by : (ids : List ℕ) (count : ℕ) {limit : ℕ} → length ids ≡ limit → check_of ids count ≡ fine_if (few_distinct count limit (take count ids))
@@ -53,30 +53,30 @@ same_check count limit ids others same =
     ⊎_elim (λ h. over_limit count limit ids h ∙ sym (over_limit count limit others h)) (λ h. ap (λ (xs : List ℕ). fine_if (few_distinct count limit xs)) (same h)) (below_or_not limit count)
 
 -- After a check k: rows that are checked alike, and what is said alike where all is fine, are answered alike.
-pub answered_alike : {A : Type 0} (refused : ℕ → A) (k : Check) {rows others : Check} {x y : A} → rows ≡ others → (both_checks k others ≡ check.Fine → x ≡ y) → unless refused (both_checks k rows) x ≡ unless refused (both_checks k others) y
-answered_alike refused k {others = others} {x = x} alike same = ap (λ (r : Check). unless refused (both_checks k r) x) alike ∙ same_unless refused (both_checks k others) same
+pub answered_alike : {A : Type 0} (k : Check) {rows others : Check} {x y : Answer A} → rows ≡ others → (both_checks k others ≡ fine → x ≡ y) → unless (both_checks k rows) x ≡ unless (both_checks k others) y
+answered_alike k {others = others} {x = x} alike same = ap (λ (r : Check). unless (both_checks k r) x) alike ∙ same_unless (both_checks k others) same
 
-pub voters_within : (v : Voters) → voters_check v ≡ check.Fine → v.count ≤ voter_limit
+pub voters_within : (v : Voters) → voters_check v ≡ fine → v.count ≤ voter_limit
 voters_within v e = within v.count voter_limit (voters_of v) e
 
 -- of both halves
-pub incoming_within : (c : JointConfig) → config_check c ≡ check.Fine → c.incoming.count ≤ voter_limit
+pub incoming_within : (c : JointConfig) → config_check c ≡ fine → c.incoming.count ≤ voter_limit
 incoming_within c e = voters_within c.incoming ((both_fine (voters_check c.incoming) (voters_check c.outgoing)).0 e).0
 
-pub outgoing_within : (c : JointConfig) → config_check c ≡ check.Fine → c.outgoing.count ≤ voter_limit
+pub outgoing_within : (c : JointConfig) → config_check c ≡ fine → c.outgoing.count ≤ voter_limit
 outgoing_within c e = voters_within c.outgoing ((both_fine (voters_check c.incoming) (voters_check c.outgoing)).0 e).1
 
 -- A question over gathered rows r whose check is passed: k is the check of its voters, and the rows are owned.
 pub record Passed (k : Check) (r : Rows) : Type 0 where
-  pub fine : both_checks k (plain_check r) ≡ check.Fine
+  pub fine : both_checks k (plain_check r) ≡ fine
   pub words : List Val
   pub owned : Is Ro.the_row r words
 
-pub passes : {k told : Check} {r : Rows} {vs : List Val} → told ≡ both_checks k (plain_check r) → told ≡ check.Fine → Is Ro.the_row r vs → Passed k r
+pub passes : {k told : Check} {r : Rows} {vs : List Val} → told ≡ both_checks k (plain_check r) → told ≡ fine → Is Ro.the_row r vs → Passed k r
 passes {vs = vs} made fine owned = record { fine = sym made ∙ fine; words = vs; owned = owned }
 
 module _ {k : Check} {r : Rows} (p : Passed k r) where
-  pub voters_fine : k ≡ check.Fine
+  pub voters_fine : k ≡ fine
   voters_fine = ((both_fine k (plain_check r)).0 p.fine).0
 
   few : r.count ≤ row_limit

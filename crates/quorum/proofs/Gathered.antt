@@ -4,8 +4,8 @@ use mathlib.Core.Path.{◌≡◌, refl, sym, ap, ◌∙◌}
 use mathlib.Core.List.{List, map, map-map}
 use lib.ListN.{length, get_or, length-map, get_or-map}
 use lib.Dec.{eqb}
-use Rattle.units.specs.Refusals.{both_checks, unless}
-use Rattle.units.specs.declared.Check.{Check}
+use Rattle.std.specs.Prelude.{Some, None, Option, Bool, true, false}
+use Rattle.units.specs.Refusals.{both_checks, unless, Answer, Check}
 use Rattle.units.proofs.Checks.{both_fine}
 use Rattle.rules.proofs.Count.{count_map, count_same}
 use Rattle.quorum.specs.Limits.{row_limit}
@@ -16,15 +16,11 @@ use Rattle.quorum.specs.Votes.{is_yes, is_missing, result_of}
 use Rattle.quorum.specs.Half.{half_index, value_in, numbers_result}
 use Rattle.quorum.specs.Majority.{acks_of, votes_of, committed_index, vote_result, plain_values, plain_committed_index, plain_vote_result}
 use Rattle.quorum.specs.Joint.{config_check, joint_committed_index, joint_vote_result, plain_joint_committed_index, plain_joint_vote_result}
-use Rattle.quorum.specs.declared.Committed.TheVariants as answer
-use Rattle.quorum.specs.declared.Verdict.TheVariants as verdict
 use Rattle.quorum.specs.declared.majority.Voters.{Voters}
 use Rattle.quorum.specs.declared.joint.JointConfig.{JointConfig}
 use Rattle.quorum.specs.declared.rows.Peer.{Peer}
 use Rattle.quorum.specs.declared.rows.Question.{Question}
 use Rattle.quorum.specs.declared.rows.Question.TheVariants as question
-use Rattle.quorum.specs.declared.rows.Vote.{Vote}
-use Rattle.quorum.specs.declared.rows.Vote.TheVariants as vote
 use Rattle.quorum.proofs.Padded.{front_padded}
 use Rattle.quorum.proofs.Checks.{within, same_check, answered_alike}
 
@@ -49,21 +45,21 @@ module _ (q : Question) (peers : List Peer) where
   values_read v h = λ i. map (λ id. value_read id h i) (voters_of v)
 
   -- after a check k, answers that are the same within the limit are the same
-  answers_alike : {A : Type 0} (refused : ℕ → A) (k : Check) {x y : A} → (length peers ≤ row_limit → x ≡ y) → unless refused (both_checks k (plain_check (gathered q peers))) x ≡ unless refused (both_checks k (rows_check peers)) y
-  answers_alike refused k same = answered_alike refused k gathered_check (λ fine. same (within (length peers) row_limit (map id_of peers) ((both_fine k (rows_check peers)).0 fine).1))
+  answers_alike : {A : Type 0} (k : Check) {x y : Answer A} → (length peers ≤ row_limit → x ≡ y) → unless (both_checks k (plain_check (gathered q peers))) x ≡ unless (both_checks k (rows_check peers)) y
+  answers_alike k same = answered_alike k gathered_check (λ passed. same (within (length peers) row_limit (map id_of peers) ((both_fine k (rows_check peers)).0 passed).1))
 
 -- Votes as numbers are counted as votes.
-said : (v : Vote) → eqb 1 (vote_number v) ≡ is_yes v
-said vote.Missing = refl
-said vote.Yes = refl
-said vote.No = refl
+said : (v : Option Bool) → eqb 1 (vote_number v) ≡ is_yes v
+said None = refl
+said (Some true) = refl
+said (Some false) = refl
 
-unsaid : (v : Vote) → eqb 0 (vote_number v) ≡ is_missing v
-unsaid vote.Missing = refl
-unsaid vote.Yes = refl
-unsaid vote.No = refl
+unsaid : (v : Option Bool) → eqb 0 (vote_number v) ≡ is_missing v
+unsaid None = refl
+unsaid (Some true) = refl
+unsaid (Some false) = refl
 
-numbers_votes : (votes : List Vote) → numbers_result (map vote_number votes) ≡ result_of votes
+numbers_votes : (votes : List (Option Bool)) → numbers_result (map vote_number votes) ≡ result_of votes
 numbers_votes votes =
     rw (length-map votes vote_number, count_map (eqb 1) vote_number votes ∙ count_same _ is_yes said votes, count_map (eqb 0) vote_number votes ∙ count_same _ is_missing unsaid votes)
 
@@ -81,16 +77,16 @@ module _ (peers : List Peer) where
   -- THE LAWS, one for each thin call
   pub gathered_index : (v : Voters) → plain_committed_index v (gathered question.Index peers) ≡ committed_index v peers
   unfolding plain_committed_index committed_index
-  gathered_index v = answers_alike question.Index peers answer.Refused (voters_check v) (λ h. cc (half_acks v h))
+  gathered_index v = answers_alike question.Index peers (voters_check v) (λ h. cc (half_acks v h))
 
   pub gathered_result : (v : Voters) → plain_vote_result v (gathered question.Vote peers) ≡ vote_result v peers
   unfolding plain_vote_result vote_result
-  gathered_result v = answers_alike question.Vote peers verdict.Refused (voters_check v) (λ h. cc (half_votes v h))
+  gathered_result v = answers_alike question.Vote peers (voters_check v) (λ h. cc (half_votes v h))
 
   pub gathered_joint : (c : JointConfig) → plain_joint_committed_index c (gathered question.Index peers) ≡ joint_committed_index c peers
   unfolding plain_joint_committed_index joint_committed_index
-  gathered_joint c = answers_alike question.Index peers answer.Refused (config_check c) (λ h. cc (half_acks c.incoming h, half_acks c.outgoing h))
+  gathered_joint c = answers_alike question.Index peers (config_check c) (λ h. cc (half_acks c.incoming h, half_acks c.outgoing h))
 
   pub gathered_verdict : (c : JointConfig) → plain_joint_vote_result c (gathered question.Vote peers) ≡ joint_vote_result c peers
   unfolding plain_joint_vote_result joint_vote_result
-  gathered_verdict c = answers_alike question.Vote peers verdict.Refused (config_check c) (λ h. cc (half_votes c.incoming h, half_votes c.outgoing h))
+  gathered_verdict c = answers_alike question.Vote peers (config_check c) (λ h. cc (half_votes c.incoming h, half_votes c.outgoing h))

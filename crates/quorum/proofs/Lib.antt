@@ -3,7 +3,6 @@ pub mod Checks
 pub mod Padded
 pub mod Front
 pub mod Sizes
-pub mod Rest
 pub mod Sinking
 pub mod Sorting
 pub mod Listing

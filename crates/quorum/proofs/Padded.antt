@@ -5,8 +5,8 @@ use mathlib.Core.List.{List, [], ◌∷◌, ◌++◌, map, map-append}
 use native.Mathlib.Omega.{arith}
 use native.Mathlib.Nat.{zero-sub}
 use native.Mathlib.Numerals.{add-one, unary_clauses}
-use lib.ListN.{length, get_or, set, take, drop, replicate, length-append, length-map, length-take, length-replicate}
-use lib.Seq.{sets, take_all, take-nil, take-append_seam, drop-append_seam, take-suc, length-take-le}
+use lib.ListN.{length, get_or, set, take, replicate, length-append, length-map, length-take, length-replicate}
+use lib.Seq.{sets, take_all, take-nil, take-append_seam, take-suc, length-take-le}
 use Rattle.units.proofs.Lists.{sets_cons, sets_out}
 use Rattle.quorum.specs.Ids.{padded}
 use Rattle.quorum.proofs.Front.{Front, front}
@@ -28,9 +28,6 @@ module _ (n : ℕ) (xs : List ℕ) (fits : length xs ≤ n) where
   pub take-padded : take (length xs) (padded n xs) ≡ xs
   take-padded = rw padded_fits (take-append_seam xs (zeros (n - length xs)))
 
-  drop-padded : drop (length xs) (padded n xs) ≡ zeros (n - length xs)
-  drop-padded = rw padded_fits (drop-append_seam xs (zeros (n - length xs)))
-
 -- An array in which a list lies: so many words at its front are the list.
 pub record Laid (all : List ℕ) (count : ℕ) (xs : List ℕ) : Type 0 where
   pub part : Front all count
@@ -46,10 +43,6 @@ laid n count xs all e long few =
 -- What f says of a list lies at the front.
 pub front_padded : {A : Type 0} (f : A → ℕ) (n : ℕ) (xs : List A) → length xs ≤ n → take (length xs) (padded n (map f xs)) ≡ map f xs
 front_padded f n xs h = (laid n (length xs) (map f xs) (padded n (map f xs)) refl (length-map xs f) h).is
-
--- Another list of the same length in its place.
-pub replace_padded : (n : ℕ) (xs ys : List ℕ) → length xs ≤ n → length ys ≡ length xs → ys ++ drop (length xs) (padded n xs) ≡ padded n ys
-replace_padded n xs ys fits e = rw (drop-padded n xs fits) (ap (λ (k : ℕ). ys ++ zeros (n - k)) (sym e) ∙ sym (padded_fits n ys (omega arith)))
 
 -- A list that is stored at the end of the one that the array holds: what there is no room for does not count.
 pub sets_zeros : (n : ℕ) (ys : List ℕ) → sets (replicate n 0) 0 ys ≡ padded n ys

@@ -50,4 +50,4 @@ module _ (r : Rows) {vs : List Val} (owned : Is Ro.the_row r vs) where
   row_values_length = (LL.owed Ro.the_type Ro'.the_laws r vs owned).1.0.1.0.1
 
 pub listed_length : (s : Ids) {vs : List Val} → Is Id.the_row s vs → length s.ids ≡ id_limit
-listed_length s {vs} owned = (LL.owed Id.the_type Id'.the_laws s vs owned).1.0.1.0.1
+listed_length s {vs} owned = (LL.owed Id.the_type Id'.the_laws s vs owned).0.1.0.1

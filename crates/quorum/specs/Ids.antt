@@ -1,7 +1,7 @@
 -- Lists of ids. A reader must know: an id stands in a list where its position is below the length; `distinct` says that none stands twice; `padded` is a list laid into an array.
 use Rattle.std.specs.Prelude.{ℕ, suc, ◌-◌, Bool, true, not, ◌&&◌, cond, List, [], ◌∷◌, ◌++◌, length, take, replicate, eqb, leb, ltb}
-use Rattle.units.specs.declared.Check.{Check}
-use Rattle.units.specs.Refusals.{broken_set, fine_or}
+use Rattle.units.specs.Refusals.{fine_or, Check}
+use Rattle.units.specs.declared.refusal.Refusal.TheVariants as refusal
 
 -- Where an id first stands, counted from 0; the length where it stands nowhere. For `contains` (01, Joint), and for rows that are "looked up by id".
 unfoldable pub position : ℕ → List ℕ → ℕ
@@ -23,7 +23,7 @@ few_distinct count limit ids = leb count limit && distinct ids
 
 -- The check of such a test: nothing wrong, or refusal 12, whose line of the table stands above.
 abbrev pub fine_if : Bool → Check
-fine_if b = fine_or b broken_set
+fine_if b = fine_or b refusal.BrokenSet
 
 -- Refusal 12 of 01's "duplicate-free array with a count": more than the array has, or a repeated id among the first `count`. (The array of a voter set, and of rows, is as long as their limit.)
 abbrev pub check_of : List ℕ → ℕ → Check

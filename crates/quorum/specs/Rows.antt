@@ -1,12 +1,9 @@
 -- Peer rows. A reader must know: a quorum question reads the rows through `row_of`, the row of a voter by its id; a voter without a row is missing everywhere.
-use Rattle.std.specs.Prelude.{ℕ, List, map, length, get_or, take}
-use Rattle.units.specs.declared.Check.{Check}
+use Rattle.std.specs.Prelude.{ℕ, List, map, length, get_or, take, Some, None, Option, Bool, true, false}
+use Rattle.units.specs.Refusals.{Check}
+use Rattle.units.specs.declared.Index.{Index}
 use Rattle.quorum.specs.Limits.{row_limit}
 use Rattle.quorum.specs.Ids.{position, few_distinct, fine_if, padded}
-use Rattle.quorum.specs.declared.rows.Ack.{Ack}
-use Rattle.quorum.specs.declared.rows.Ack.TheVariants as ack
-use Rattle.quorum.specs.declared.rows.Vote.{Vote}
-use Rattle.quorum.specs.declared.rows.Vote.TheVariants as vote
 use Rattle.quorum.specs.declared.rows.Peer.{Peer}
 use Rattle.quorum.specs.declared.rows.Question.{Question}
 use Rattle.quorum.specs.declared.rows.Question.TheVariants as question
@@ -14,7 +11,7 @@ use Rattle.quorum.specs.declared.rows.Rows.{Rows}
 
 -- 01: "a voter without a row is missing everywhere": the row that such a voter reads.
 abbrev pub nobody : Peer
-nobody = record { id = 0; ack = ack.Missing; vote = vote.Missing }
+nobody = record { id = 0; ack = None; vote = None }
 
 -- The id of a row. 01, "Where each language form goes": "a lent slice of peer structs, looked up by id".
 abbrev pub id_of : Peer → ℕ
@@ -25,15 +22,15 @@ abbrev pub row_of : List Peer → ℕ → Peer
 row_of peers id = get_or peers (position id (map id_of peers)) nobody
 
 -- THE PROMISE of `ack_number`. 01, Majority: "a missing one counts as 0".
-abbrev pub ack_number : Ack → ℕ
-ack_number ack.Missing = 0
-ack_number (ack.At index) = index.0
+abbrev pub ack_number : Option Index → ℕ
+ack_number None = 0
+ack_number (Some index) = index.0
 
 -- THE PROMISE of `vote_number`. 01: "its vote as missing, yes or no", as the numbers 0, 1 and 2 for the gathered rows.
-abbrev pub vote_number : Vote → ℕ
-vote_number vote.Missing = 0
-vote_number vote.Yes = 1
-vote_number vote.No = 2
+abbrev pub vote_number : Option Bool → ℕ
+vote_number None = 0
+vote_number (Some true) = 1
+vote_number (Some false) = 2
 
 -- Refusal 12 of the rows: "over 64 rows, a repeated row id".
 abbrev pub rows_check : List Peer → Check

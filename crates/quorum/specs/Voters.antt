@@ -1,12 +1,10 @@
 -- A voter set: an array of ids with a count. A reader must know: the voters are the first `count` ids; the set is broken (refusal 12) where the count is over the limit or an id repeats.
-use Rattle.std.specs.Prelude.{ℕ, cond, List, [], length, take}
-use Rattle.units.specs.declared.Check.{Check}
-use Rattle.units.specs.declared.Check.TheVariants as check
-use Rattle.units.specs.Refusals.{broken_set}
+use Rattle.std.specs.Prelude.{ℕ, cond, List, [], length, take, Ok, Err}
+use Rattle.units.specs.declared.refusal.Refusal.TheVariants as refusal
+use Rattle.units.specs.Refusals.{Answer, Check}
 use Rattle.quorum.specs.Limits.{voter_limit}
 use Rattle.quorum.specs.Ids.{few_distinct, fine_if, padded}
 use Rattle.quorum.specs.declared.majority.Voters.{Voters}
-use Rattle.quorum.specs.declared.majority.Made.{Made}
 
 -- The ids of a voter set, which is "a duplicate-free array with a count" (01, "What must change shape"): the first `count`.
 abbrev pub voters_of : Voters → List ℕ
@@ -25,5 +23,5 @@ abbrev pub no_voters : Voters
 no_voters = set_of []
 
 -- THE PROMISE of `new`. 01, Majority: "A voter set of 0 to 7 different ids." Others are refusal 12, beside the empty set.
-abbrev pub made : List ℕ → Made
-made ids = cond (few_distinct (length ids) voter_limit ids) (record { check = check.Fine; set = set_of ids }) (record { check = check.Refused broken_set; set = no_voters })
+abbrev pub made : List ℕ → Answer Voters
+made ids = cond (few_distinct (length ids) voter_limit ids) (Ok (set_of ids)) (Err refusal.BrokenSet)

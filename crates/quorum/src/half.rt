@@ -1,7 +1,7 @@
 // One half of a joint configuration, or the one set of a plain one: the questions over what its voters said, as plain numbers.
-ghost use Rattle.std.specs.Prelude.{◌≡◌, ◌&&◌, ◌≤◌, ◌+◌, eqb};
+ghost use Rattle.std.specs.Prelude.{◌≡◌, ◌≤◌, ◌+◌, eqb};
 ghost use Rattle.units.specs.Units.{word_max};
-ghost use Rattle.rules.specs.Count.{count, one_more_if};
+ghost use Rattle.rules.specs.Count.{count};
 ghost use Rattle.rules.specs.Majority.{falling};
 ghost use Rattle.quorum.specs.Votes.{tally as tally_of, joint_result};
 ghost use Rattle.quorum.specs.Half.{half_index, joined as joined_of, numbers_result};
@@ -10,7 +10,7 @@ use crate::VoteResult;
 use units::smaller;
 
 // A committed index, and whether no voter had a say in it.
-#[derive(Clone, Copy)]
+#[derive(Clone, Copy, Debug, PartialEq, Eq)]
 pub struct Half {
     pub index: u64,
     pub free: bool,
@@ -34,38 +34,23 @@ pub fn index_of(acks: &mut [u64]) -> Half
     }
 }
 
-fn both(a: bool, b: bool) -> bool
-    ensures { result ≡ a && b }
-{
-    if a { b } else { false }
-}
-
 // The smaller index; free only where both are.
 pub fn joined(incoming: Half, outgoing: Half) -> Half
     ensures { result ≡ joined_of incoming outgoing }
 {
     Half {
         index: smaller(incoming.index, outgoing.index),
-        free: both(incoming.free, outgoing.free),
+        free: incoming.free && outgoing.free,
     }
 }
 
-// 1 where the two are the same, so that a count has no branch.
-fn one_if(a: u64, b: u64) -> usize
-    ensures { result ≡ one_more_if (eqb a b) 0 }
-{
-    if a == b { 1 } else { 0 }
-}
-
-// How many words are `word`.
+// How many words are `word`: a sum, since the library's count of a filter has a branch for each word.
 fn count_of(words: &[u64], word: u64) -> usize
     ensures { result ≡ count (eqb word) words.now }
 {
     let mut n: usize = 0;
-    let mut i = 0;
-    while i < words.len() {
-        n += one_if(word, words[i]);
-        i += 1;
+    for w in words {
+        n += usize::from(word == *w);
     }
     n
 }
@@ -101,13 +86,9 @@ pub fn result_of(votes: &[u64]) -> VoteResult
 pub fn joint_result(incoming: VoteResult, outgoing: VoteResult) -> VoteResult
     ensures { result ≡ joint_result incoming outgoing }
 {
-    match incoming {
-        VoteResult::Won => outgoing,
-        VoteResult::Lost => VoteResult::Lost,
-        VoteResult::Pending => match outgoing {
-            VoteResult::Won => VoteResult::Pending,
-            VoteResult::Lost => VoteResult::Lost,
-            VoteResult::Pending => VoteResult::Pending,
-        },
+    match (incoming, outgoing) {
+        (VoteResult::Won, VoteResult::Won) => VoteResult::Won,
+        (VoteResult::Lost, _) | (_, VoteResult::Lost) => VoteResult::Lost,
+        _ => VoteResult::Pending,
     }
 }

@@ -10,7 +10,7 @@ pub mod rows;
 mod sort;
 
 // The outcome of a vote.
-#[derive(Clone, Copy)]
+#[derive(Clone, Copy, Debug, PartialEq, Eq)]
 pub enum VoteResult {
     // Neither yes nor no has a quorum: the missing votes decide.
     Pending,
@@ -18,20 +18,4 @@ pub enum VoteResult {
     Lost,
     // A majority has said yes.
     Won,
-}
-
-use units::Index;
-
-// The answer to "how far is it committed": an index, with whether no voter had a say in it; or a refusal.
-#[derive(Clone, Copy)]
-pub enum Committed {
-    At(Index, bool),
-    Refused(u64),
-}
-
-// The answer to "how does the vote stand".
-#[derive(Clone, Copy)]
-pub enum Verdict {
-    Stands(VoteResult),
-    Refused(u64),
 }

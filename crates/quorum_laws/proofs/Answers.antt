@@ -7,12 +7,12 @@ use mathlib.Core.Logic.Iff
 use mathlib.Core.Logic.{◌↔◌, ◌⊎◌, ⊎_map}
 use native.Mathlib.Omega.{arith}
 use lib.ListN.{length, get_or, length-map}
+use Rattle.std.specs.Prelude.{Ok, Err}
 use Rattle.units.specs.Units.{word_max, index_of}
-use Rattle.units.specs.Refusals.{broken_set, both_checks, unless, is_unless}
+use Rattle.units.specs.Refusals.{both_checks, Check, fine}
+use Rattle.units.specs.declared.refusal.Refusal.{Refusal}
+use Rattle.units.specs.declared.refusal.Refusal.TheVariants as refusal
 use Rattle.units.specs.declared.Index.{Index}
-use Rattle.units.specs.declared.Check.{Check}
-use Rattle.units.specs.declared.Check.TheVariants as check
-use Rattle.units.specs.declared.YesOrNo.TheVariants as yes_or_no
 use Rattle.units.proofs.Never.{never}
 use Rattle.rules.specs.Majority.{Commits}
 use Rattle.rules.proofs.Majority.{committed_commits, commits_committed}
@@ -22,9 +22,7 @@ use Rattle.quorum.specs.Voters.{voters_of, voters_check}
 use Rattle.quorum.specs.Votes.{result_of, joint_result}
 use Rattle.quorum.specs.Half.{half_index, joined}
 use Rattle.quorum.specs.Majority.{index_unless, result_unless, acks_of, votes_of, committed_index, vote_result, match_index}
-use Rattle.quorum.specs.Joint.{one_set, config_check, joint_committed_index, joint_vote_result, is_singleton, contains_of, both_ids, id_list_unless, joint_ids}
-use Rattle.quorum.specs.declared.Committed.TheVariants as answer
-use Rattle.quorum.specs.declared.Verdict.TheVariants as verdict
+use Rattle.quorum.specs.Joint.{one_set, config_check, joint_committed_index, joint_vote_result, is_singleton, contains_of, joint_ids}
 use Rattle.quorum.specs.declared.VoteResult.{VoteResult}
 use Rattle.quorum.specs.declared.VoteResult.TheVariants as result
 use Rattle.quorum.specs.declared.half.Half.{Half}
@@ -33,25 +31,19 @@ use Rattle.quorum.specs.declared.joint.JointConfig.{JointConfig}
 use Rattle.quorum.specs.declared.rows.Peer.{Peer}
 use Rattle.quorum_laws.specs.JointRule.{JointCommits, Wins, Loses}
 use Rattle.quorum_laws.specs.Questions.{Whole, JointWhole, Words, WordRows, NoVoters, JointWins, JointLoses}
-use Rattle.quorum_laws.proofs.Checks.{OnlyTwelve, voters_twelve, config_twelve, with_rows_twelve, refused_by_twelve}
+use Rattle.quorum_laws.proofs.Checks.{voters_twelve, config_twelve, with_rows_twelve, refused_by_twelve}
 use Rattle.quorum_laws.proofs.Votes.{pending_if_neither, half_won, half_lost, both_won, either_lost}
 use Rattle.quorum_laws.proofs.Joint.{joint_unique, index_fits, joined_commits, joined_free, joined_one_set}
 use Rattle.quorum_laws.proofs.Made.{empty_fine}
 
 -- An answer that is no refusal: the check is fine, and the values are the half's, or the vote's.
-pub at_exactly_if : (k : Check) (h : Half) (n : ℕ) (b : Bool) → (index_unless k h ≡ answer.At (index_of n) b) ↔ ((k ≡ check.Fine) × ((h.index ≡ n) × (h.free ≡ b)))
-at_exactly_if check.Fine h n b = ((λ e. let i : index_of h.index ≡ index_of n = cc in (refl, (ap (λ (j : Index). j.0) i, (cc)))), (λ e. cc (e.1.0, e.1.1)))
-at_exactly_if (check.Refused m) h n b = ((λ e. ((cc), ((cc), (cc)))), (λ e. cc e.0))
+pub at_exactly_if : (k : Check) (h : Half) (n : ℕ) (b : Bool) → (index_unless k h ≡ Ok (index_of n, b)) ↔ ((k ≡ fine) × ((h.index ≡ n) × (h.free ≡ b)))
+at_exactly_if (Ok _) h n b = ((λ e. let same : (index_of h.index, h.free) ≡ (index_of n, b) = cc in (refl, (ap (λ (p : Index × Bool). p.0.0) same, ap (λ (p : Index × Bool). p.1) same))), (λ e. cc (e.1.0, e.1.1)))
+at_exactly_if (Err m) h n b = ((λ e. ((cc), ((cc), (cc)))), (λ e. cc e.0))
 
-stands_exactly_if : (k : Check) (r s : VoteResult) → (result_unless k r ≡ verdict.Stands s) ↔ ((k ≡ check.Fine) × (r ≡ s))
-stands_exactly_if check.Fine r s = ((λ e. (refl, (cc))), (λ e. ap verdict.Stands e.1))
-stands_exactly_if (check.Refused m) r s = ((λ e. ((cc), (cc))), (λ e. cc e.0))
-
-index_refuses : (h : Half) (k : Check) → OnlyTwelve k → (n : ℕ) → (index_unless k h ≡ answer.Refused n) ↔ ((¬ (k ≡ check.Fine)) × (n ≡ broken_set))
-index_refuses h = refused_by_twelve answer.Refused (λ m n e. cc) (λ n e. cc)
-
-result_refuses : (r : VoteResult) (k : Check) → OnlyTwelve k → (n : ℕ) → (result_unless k r ≡ verdict.Refused n) ↔ ((¬ (k ≡ check.Fine)) × (n ≡ broken_set))
-result_refuses r = refused_by_twelve verdict.Refused (λ m n e. cc) (λ n e. cc)
+stands_exactly_if : (k : Check) (r s : VoteResult) → (result_unless k r ≡ Ok s) ↔ ((k ≡ fine) × (r ≡ s))
+stands_exactly_if (Ok _) r s = ((λ e. (refl, (cc))), (λ e. ap Ok e.1))
+stands_exactly_if (Err m) r s = ((λ e. ((cc), (cc))), (λ e. cc e.0))
 
 -- Something is read of the voters where somebody is one.
 somebody_read : {A : Type 0} (f : ℕ → A) (ids : List ℕ) → (0 < length (map f ids)) ↔ (0 < length ids)
@@ -69,34 +61,34 @@ no_index [] n = ((λ e. (refl, sym e.0)), (λ e. (sym e.1, refl)))
 no_index (a ∷ acks) n = ((λ e. ((cc e.1), (cc e.1))), (λ e. ((cc e.0), (cc e.0))))
 
 module _ (v : Voters) (peers : List Peer) where
-  pub index_answer : (n : ℕ) → (committed_index v peers ≡ answer.At (index_of n) false) ↔ (Whole v peers × ((0 < length (voters_of v)) × Commits (acks_of peers v) n))
+  pub index_answer : (n : ℕ) → (committed_index v peers ≡ Ok (index_of n, false)) ↔ (Whole v peers × ((0 < length (voters_of v)) × Commits (acks_of peers v) n))
   unfolding committed_index
   index_answer n = Iff.trans (at_exactly_if _ _ n false) (Iff.and Iff.rfl (Iff.trans (some_index (acks_of peers v) n) (Iff.and (somebody_read _ (voters_of v)) Iff.rfl)))
 
-  pub nobody_answer : (n : ℕ) → (committed_index v peers ≡ answer.At (index_of n) true) ↔ (Whole v peers × ((voters_of v ≡ []) × (n ≡ word_max)))
+  pub nobody_answer : (n : ℕ) → (committed_index v peers ≡ Ok (index_of n, true)) ↔ (Whole v peers × ((voters_of v ≡ []) × (n ≡ word_max)))
   unfolding committed_index
   nobody_answer n = Iff.trans (at_exactly_if _ _ n true) (Iff.and Iff.rfl (Iff.trans (no_index (acks_of peers v) n) (Iff.and (map-eq-nil_iff _) Iff.rfl)))
 
-  pub index_refused : (n : ℕ) → (committed_index v peers ≡ answer.Refused n) ↔ ((¬ Whole v peers) × (n ≡ broken_set))
+  pub index_refused : (n : Refusal) → (committed_index v peers ≡ Err n) ↔ ((¬ Whole v peers) × (n ≡ refusal.BrokenSet))
   unfolding committed_index
-  index_refused n = index_refuses _ _ (with_rows_twelve (voters_check v) peers (voters_twelve v)) n
+  index_refused n = refused_by_twelve _ _ (with_rows_twelve (voters_check v) peers (voters_twelve v)) n
 
-  pub vote_answer : (r : VoteResult) → (vote_result v peers ≡ verdict.Stands r) ↔ (Whole v peers × (result_of (votes_of peers v) ≡ r))
+  pub vote_answer : (r : VoteResult) → (vote_result v peers ≡ Ok r) ↔ (Whole v peers × (result_of (votes_of peers v) ≡ r))
   unfolding vote_result
   vote_answer r = stands_exactly_if _ _ r
 
-  pub won_answer : (vote_result v peers ≡ verdict.Stands result.Won) ↔ (Whole v peers × Wins (votes_of peers v))
+  pub won_answer : (vote_result v peers ≡ Ok result.Won) ↔ (Whole v peers × Wins (votes_of peers v))
   won_answer = Iff.trans (vote_answer result.Won) (Iff.and Iff.rfl (half_won (votes_of peers v)))
 
-  pub lost_answer : (vote_result v peers ≡ verdict.Stands result.Lost) ↔ (Whole v peers × Loses (votes_of peers v))
+  pub lost_answer : (vote_result v peers ≡ Ok result.Lost) ↔ (Whole v peers × Loses (votes_of peers v))
   lost_answer = Iff.trans (vote_answer result.Lost) (Iff.and Iff.rfl (half_lost (votes_of peers v)))
 
-  pub pending_answer : (vote_result v peers ≡ verdict.Stands result.Pending) ↔ (Whole v peers × ((¬ Wins (votes_of peers v)) × (¬ Loses (votes_of peers v))))
+  pub pending_answer : (vote_result v peers ≡ Ok result.Pending) ↔ (Whole v peers × ((¬ Wins (votes_of peers v)) × (¬ Loses (votes_of peers v))))
   pending_answer = Iff.trans (vote_answer result.Pending) (Iff.and Iff.rfl (pending_if_neither _ (half_won (votes_of peers v)) (half_lost (votes_of peers v))))
 
-  pub vote_refused : (n : ℕ) → (vote_result v peers ≡ verdict.Refused n) ↔ ((¬ Whole v peers) × (n ≡ broken_set))
+  pub vote_refused : (n : Refusal) → (vote_result v peers ≡ Err n) ↔ ((¬ Whole v peers) × (n ≡ refusal.BrokenSet))
   unfolding vote_result
-  vote_refused n = result_refuses _ _ (with_rows_twelve (voters_check v) peers (voters_twelve v)) n
+  vote_refused n = refused_by_twelve _ _ (with_rows_twelve (voters_check v) peers (voters_twelve v)) n
 
 -- BOTH HALVES. Where each acknowledgement in the rows is a number of 64 bits, so is each that a voter reads there.
 row_word : (peers : List Peer) → WordRows peers → (at : ℕ) → ack_number (get_or peers at nobody).ack ≤ word_max
@@ -125,7 +117,7 @@ either_of h k = (⊎_map h.0 k.0, ⊎_map h.1 k.1)
 
 module _ (c : JointConfig) (peers : List Peer) where
   pub joint_index_answer : WordRows peers → (n : ℕ) (b : Bool)
-      → (joint_committed_index c peers ≡ answer.At (index_of n) b) ↔ (JointWhole c peers × (JointCommits (acks_of peers c.incoming) (acks_of peers c.outgoing) n × ((b ≡ true) ↔ NoVoters c)))
+      → (joint_committed_index c peers ≡ Ok (index_of n, b)) ↔ (JointWhole c peers × (JointCommits (acks_of peers c.incoming) (acks_of peers c.outgoing) n × ((b ≡ true) ↔ NoVoters c)))
   unfolding joint_committed_index
   joint_index_answer w n b =
       Iff.trans (at_exactly_if _ _ n b)
@@ -136,11 +128,11 @@ module _ (c : JointConfig) (peers : List Peer) where
       same_right : {A B C : Type 0} → B ↔ C → (A ↔ B) ↔ (A ↔ C)
       same_right e = ((λ f. Iff.trans f e), (λ f. Iff.trans f (Iff.symm e)))
 
-  pub joint_index_refused : (n : ℕ) → (joint_committed_index c peers ≡ answer.Refused n) ↔ ((¬ JointWhole c peers) × (n ≡ broken_set))
+  pub joint_index_refused : (n : Refusal) → (joint_committed_index c peers ≡ Err n) ↔ ((¬ JointWhole c peers) × (n ≡ refusal.BrokenSet))
   unfolding joint_committed_index
-  joint_index_refused n = index_refuses _ _ (with_rows_twelve (config_check c) peers (config_twelve c)) n
+  joint_index_refused n = refused_by_twelve _ _ (with_rows_twelve (config_check c) peers (config_twelve c)) n
 
-  pub joint_vote_answer : (r : VoteResult) → (joint_vote_result c peers ≡ verdict.Stands r) ↔ (JointWhole c peers × (joint_result (result_of (votes_of peers c.incoming)) (result_of (votes_of peers c.outgoing)) ≡ r))
+  pub joint_vote_answer : (r : VoteResult) → (joint_vote_result c peers ≡ Ok r) ↔ (JointWhole c peers × (joint_result (result_of (votes_of peers c.incoming)) (result_of (votes_of peers c.outgoing)) ≡ r))
   unfolding joint_vote_result
   joint_vote_answer r = stands_exactly_if _ _ r
 
@@ -150,23 +142,23 @@ module _ (c : JointConfig) (peers : List Peer) where
   joint_lost : (joint_result (result_of (votes_of peers c.incoming)) (result_of (votes_of peers c.outgoing)) ≡ result.Lost) ↔ JointLoses c peers
   joint_lost = Iff.trans (either_lost _ _) (either_of (half_lost (votes_of peers c.incoming)) (half_lost (votes_of peers c.outgoing)))
 
-  pub joint_won_answer : (joint_vote_result c peers ≡ verdict.Stands result.Won) ↔ (JointWhole c peers × JointWins c peers)
+  pub joint_won_answer : (joint_vote_result c peers ≡ Ok result.Won) ↔ (JointWhole c peers × JointWins c peers)
   joint_won_answer = Iff.trans (joint_vote_answer result.Won) (Iff.and Iff.rfl joint_won)
 
-  pub joint_lost_answer : (joint_vote_result c peers ≡ verdict.Stands result.Lost) ↔ (JointWhole c peers × JointLoses c peers)
+  pub joint_lost_answer : (joint_vote_result c peers ≡ Ok result.Lost) ↔ (JointWhole c peers × JointLoses c peers)
   joint_lost_answer = Iff.trans (joint_vote_answer result.Lost) (Iff.and Iff.rfl joint_lost)
 
-  pub joint_pending_answer : (joint_vote_result c peers ≡ verdict.Stands result.Pending) ↔ (JointWhole c peers × ((¬ JointWins c peers) × (¬ JointLoses c peers)))
+  pub joint_pending_answer : (joint_vote_result c peers ≡ Ok result.Pending) ↔ (JointWhole c peers × ((¬ JointWins c peers) × (¬ JointLoses c peers)))
   joint_pending_answer = Iff.trans (joint_vote_answer result.Pending) (Iff.and Iff.rfl (pending_if_neither _ joint_won joint_lost))
 
-  pub joint_vote_refused : (n : ℕ) → (joint_vote_result c peers ≡ verdict.Refused n) ↔ ((¬ JointWhole c peers) × (n ≡ broken_set))
+  pub joint_vote_refused : (n : Refusal) → (joint_vote_result c peers ≡ Err n) ↔ ((¬ JointWhole c peers) × (n ≡ refusal.BrokenSet))
   unfolding joint_vote_result
-  joint_vote_refused n = result_refuses _ _ (with_rows_twelve (config_check c) peers (config_twelve c)) n
+  joint_vote_refused n = refused_by_twelve _ _ (with_rows_twelve (config_check c) peers (config_twelve c)) n
 
 -- A configuration of one set answers as the set does.
-then_fine : (k : Check) → both_checks k check.Fine ≡ k
-then_fine check.Fine = refl
-then_fine (check.Refused n) = refl
+then_fine : (k : Check) → both_checks k fine ≡ k
+then_fine (Ok _) = refl
+then_fine (Err n) = refl
 
 then_won : (r : VoteResult) → joint_result r result.Won ≡ r
 then_won result.Pending = refl
@@ -186,20 +178,12 @@ module _ (v : Voters) (peers : List Peer) where
   one_set_vote = cc (one_set_check v, then_won (result_of (votes_of peers v)))
 
 -- The other questions of a configuration read no rows, and refuse where a half is broken.
-is_refuses : (b : Bool) (k : Check) → OnlyTwelve k → (n : ℕ) → (is_unless k b ≡ yes_or_no.Refused n) ↔ ((¬ (k ≡ check.Fine)) × (n ≡ broken_set))
-is_refuses b = refused_by_twelve yes_or_no.Refused (λ m n e. cc) (λ n e. cc)
-
--- (A list of ids stands beside its check.)
-list_check : (k : Check) (ids : List ℕ) → (id_list_unless k ids).check ≡ unless check.Refused k check.Fine
-list_check check.Fine ids = refl
-list_check (check.Refused n) ids = refl
-
 module _ (c : JointConfig) where
-  pub singleton_refused : (n : ℕ) → (is_singleton c ≡ yes_or_no.Refused n) ↔ ((¬ (config_check c ≡ check.Fine)) × (n ≡ broken_set))
-  singleton_refused n = is_refuses _ (config_check c) (config_twelve c) n
+  pub singleton_refused : (n : Refusal) → (is_singleton c ≡ Err n) ↔ ((¬ (config_check c ≡ fine)) × (n ≡ refusal.BrokenSet))
+  singleton_refused n = refused_by_twelve _ (config_check c) (config_twelve c) n
 
-  pub contains_refused : (id n : ℕ) → (contains_of c id ≡ yes_or_no.Refused n) ↔ ((¬ (config_check c ≡ check.Fine)) × (n ≡ broken_set))
-  contains_refused id n = is_refuses _ (config_check c) (config_twelve c) n
+  pub contains_refused : (id : ℕ) (n : Refusal) → (contains_of c id ≡ Err n) ↔ ((¬ (config_check c ≡ fine)) × (n ≡ refusal.BrokenSet))
+  contains_refused id n = refused_by_twelve _ (config_check c) (config_twelve c) n
 
-  pub ids_refused : (n : ℕ) → ((joint_ids c).check ≡ check.Refused n) ↔ ((¬ (config_check c ≡ check.Fine)) × (n ≡ broken_set))
-  ids_refused n = rw (list_check (config_check c) (both_ids c)) (refused_by_twelve check.Refused (λ m n e. cc) (λ n e. cc) (config_check c) (config_twelve c) n)
+  pub ids_refused : (n : Refusal) → (joint_ids c ≡ Err n) ↔ ((¬ (config_check c ≡ fine)) × (n ≡ refusal.BrokenSet))
+  ids_refused n = refused_by_twelve _ (config_check c) (config_twelve c) n

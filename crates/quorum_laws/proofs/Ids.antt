@@ -9,18 +9,19 @@ use native.Mathlib.Nat.{le_antisymm}
 use lib.ListN.{length, take, length-append, length-take}
 use lib.Dec.{eqb, leb}
 use borrow.Author.Tests.{eqb-true, eq-eqb}
-use Rattle.units.specs.declared.Check.TheVariants as check
-use Rattle.units.specs.declared.YesOrNo.TheVariants as yes_or_no
+use Rattle.std.specs.Prelude.{Ok}
 use Rattle.units.proofs.Cond.{either_end}
 use Rattle.units.proofs.Never.{never}
 use Rattle.units.proofs.Numbers.{below_or_not}
+use Rattle.units.specs.Refusals.{fine}
 use Rattle.rules.specs.Majority.{reached, falling}
 use Rattle.rules.proofs.Count.{count_cons, one_at_least}
 use Rattle.rules.proofs.Majority.{reached_hit, Capped, Falls, falls_falling, length-falling}
 use Rattle.quorum.specs.Limits.{id_limit}
 use Rattle.quorum.specs.Ids.{has}
 use Rattle.quorum.specs.Voters.{voters_of}
-use Rattle.quorum.specs.Joint.{config_check, rising, both_ids, joint_ids, contains_of}
+use Rattle.quorum.specs.Joint.{config_check, rising, both_ids, id_list, joint_ids, contains_of}
+use Rattle.quorum.specs.declared.joint.Ids.{Ids}
 use Rattle.quorum.specs.declared.joint.JointConfig.{JointConfig}
 use Rattle.quorum_laws.specs.IdsRule.{Rising, ListsBoth}
 use Rattle.quorum_laws.proofs.Members.{has_append, has_falling}
@@ -129,16 +130,16 @@ pub both_ids_unique : (c : JointConfig) (ids : List ℕ) → ListsBoth c ids →
 both_ids_unique c ids l = rising_unique ids (both_ids c) l.rises (both_ids_lem c).rises (λ id. l.members id ∙ sym ((both_ids_lem c).members id))
 
 -- There is room for it.
-length_both_ids : (c : JointConfig) → config_check c ≡ check.Fine → length (both_ids c) ≤ id_limit
+length_both_ids : (c : JointConfig) → config_check c ≡ fine → length (both_ids c) ≤ id_limit
 unfolding both_ids
 length_both_ids c e =
     let both : List ℕ = voters_of c.incoming ++ voters_of c.outgoing in
     omega (arith, length-rising (falling both), length-falling both, length-append (voters_of c.incoming) (voters_of c.outgoing), length-take c.incoming.count c.incoming.ids, length-take c.outgoing.count c.outgoing.ids, incoming_within c e, outgoing_within c e)
 
 -- So the answer holds all of it, and `contains` says yes to those ids.
-module _ (c : JointConfig) (fine : config_check c ≡ check.Fine) where
-  pub ids_listed : take (joint_ids c).count (joint_ids c).ids ≡ both_ids c
-  ids_listed = rw fine (take-padded id_limit (both_ids c) (length_both_ids c fine))
+module _ (c : JointConfig) (sound : config_check c ≡ fine) where
+  pub ids_listed : (s : Ids) × ((joint_ids c ≡ Ok s) × (take s.count s.ids ≡ both_ids c))
+  ids_listed = (id_list (both_ids c), (rw sound, take-padded id_limit (both_ids c) (length_both_ids c sound)))
 
-  pub contains_listed : (id : ℕ) → contains_of c id ≡ yes_or_no.Is (has id (both_ids c))
-  contains_listed id = rw (fine, (both_ids_lem c).members id)
+  pub contains_listed : (id : ℕ) → contains_of c id ≡ Ok (has id (both_ids c))
+  contains_listed id = rw (sound, (both_ids_lem c).members id)

@@ -7,9 +7,7 @@ use native.Mathlib.Omega.{arith}
 use lib.ListN.{length}
 use lib.Dec.{eqb}
 use borrow.Author.Tests.{eqb-true, eq-eqb}
-use Rattle.units.specs.Refusals.{both_checks, unless}
-use Rattle.units.specs.declared.Check.{Check}
-use Rattle.units.specs.declared.Check.TheVariants as check
+use Rattle.units.specs.Refusals.{both_checks, unless, Answer, Check, fine}
 use Rattle.units.proofs.Checks.{both_fine}
 use Rattle.rules.specs.Count.{Reordered, none, keep, swap, then}
 use Rattle.rules.proofs.Count.{length-reordered, map_reordered}
@@ -21,8 +19,6 @@ use Rattle.quorum.specs.Votes.{result_of}
 use Rattle.quorum.specs.Half.{half_index}
 use Rattle.quorum.specs.Majority.{acks_of, votes_of, committed_index, vote_result}
 use Rattle.quorum.specs.Joint.{config_check, joint_committed_index, joint_vote_result}
-use Rattle.quorum.specs.declared.Committed.TheVariants as answer
-use Rattle.quorum.specs.declared.Verdict.TheVariants as verdict
 use Rattle.quorum.specs.declared.majority.Voters.{Voters}
 use Rattle.quorum.specs.declared.joint.JointConfig.{JointConfig}
 use Rattle.quorum.specs.declared.rows.Peer.{Peer}
@@ -113,9 +109,9 @@ module _ {peers others : List Peer} (r : Reordered peers others) where
   rows_check_lem = rw (length-reordered r, distinct_reordered (map_reordered id_of r))
 
   -- One half: each voter reads the same row.
-  module _ (k : Check) (fine : both_checks k (rows_check peers) ≡ check.Fine) where
+  module _ (k : Check) (passed : both_checks k (rows_check peers) ≡ fine) where
     same_row : (id : ℕ) → row_of peers id ≡ row_of others id
-    same_row = row_reordered r (distinct_rows peers ((both_fine k (rows_check peers)).0 fine).1)
+    same_row = row_reordered r (distinct_rows peers ((both_fine k (rows_check peers)).0 passed).1)
 
     acks_read : (v : Voters) → acks_of peers v ≡ acks_of others v
     acks_read v = map_congr_left {l = voters_of v} (λ id m. ap (λ (p : Peer). ack_number p.ack) (same_row id))
@@ -124,21 +120,21 @@ module _ {peers others : List Peer} (r : Reordered peers others) where
     votes_read v = map_congr_left {l = voters_of v} (λ id m. ap (λ (p : Peer). p.vote) (same_row id))
 
   -- A question that reads the rows by its check and by its voters.
-  answer_rows : {A : Type 0} (refused : ℕ → A) (k : Check) {x y : A} → (both_checks k (rows_check peers) ≡ check.Fine → x ≡ y) → unless refused (both_checks k (rows_check peers)) x ≡ unless refused (both_checks k (rows_check others)) y
-  answer_rows refused k e = sym (answered_alike refused k (sym rows_check_lem) (λ fine. sym (e fine)))
+  answer_rows : {A : Type 0} (k : Check) {x y : Answer A} → (both_checks k (rows_check peers) ≡ fine → x ≡ y) → unless (both_checks k (rows_check peers)) x ≡ unless (both_checks k (rows_check others)) y
+  answer_rows k e = sym (answered_alike k (sym rows_check_lem) (λ passed. sym (e passed)))
 
   pub committed_index_rows : (v : Voters) → committed_index v peers ≡ committed_index v others
   unfolding committed_index
-  committed_index_rows v = answer_rows answer.Refused (voters_check v) (λ e. cc (acks_read (voters_check v) e v))
+  committed_index_rows v = answer_rows (voters_check v) (λ e. cc (acks_read (voters_check v) e v))
 
   pub vote_result_rows : (v : Voters) → vote_result v peers ≡ vote_result v others
   unfolding vote_result
-  vote_result_rows v = answer_rows verdict.Refused (voters_check v) (λ e. cc (votes_read (voters_check v) e v))
+  vote_result_rows v = answer_rows (voters_check v) (λ e. cc (votes_read (voters_check v) e v))
 
   pub joint_index_rows : (c : JointConfig) → joint_committed_index c peers ≡ joint_committed_index c others
   unfolding joint_committed_index
-  joint_index_rows c = answer_rows answer.Refused (config_check c) (λ e. cc (acks_read (config_check c) e c.incoming, acks_read (config_check c) e c.outgoing))
+  joint_index_rows c = answer_rows (config_check c) (λ e. cc (acks_read (config_check c) e c.incoming, acks_read (config_check c) e c.outgoing))
 
   pub joint_verdict_rows : (c : JointConfig) → joint_vote_result c peers ≡ joint_vote_result c others
   unfolding joint_vote_result
-  joint_verdict_rows c = answer_rows verdict.Refused (config_check c) (λ e. cc (votes_read (config_check c) e c.incoming, votes_read (config_check c) e c.outgoing))
+  joint_verdict_rows c = answer_rows (config_check c) (λ e. cc (votes_read (config_check c) e c.incoming, votes_read (config_check c) e c.outgoing))

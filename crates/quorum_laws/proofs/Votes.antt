@@ -8,21 +8,20 @@ use native.Mathlib.Omega.{arith}
 use lib.ListN.{length}
 use lib.Dec.{eqb, leb}
 use borrow.Author.Tests.{le-leb, lt-leb, ne_eqb}
+use Rattle.std.specs.Prelude.{Some, None, Option}
+use Rattle.units.proofs.Cond.{both_ends}
+use Rattle.units.proofs.Never.{never}
+use Rattle.units.proofs.Numbers.{below_or_not}
 use Rattle.rules.specs.Count.{count, Reordered}
 use Rattle.rules.specs.Majority.{quorum}
 use Rattle.rules.proofs.Count.{length-reordered, count_reordered}
 use Rattle.quorum.specs.Votes.{is_yes, is_missing, result_of, Ends, none, yea, nay, free, yes_in, Sure, Hopeless, joint_result}
 use Rattle.quorum.specs.declared.VoteResult.{VoteResult}
 use Rattle.quorum.specs.declared.VoteResult.TheVariants as result
-use Rattle.quorum.specs.declared.rows.Vote.{Vote}
-use Rattle.quorum.specs.declared.rows.Vote.TheVariants as vote
 use Rattle.quorum_laws.specs.JointRule.{Wins, Loses}
-use Rattle.units.proofs.Cond.{both_ends}
-use Rattle.units.proofs.Never.{never}
-use Rattle.units.proofs.Numbers.{below_or_not}
 
 -- However it ends, yes has at least those that said so, and at most those and the missing.
-fewest : {votes : List Vote} {ends : List Bool} → Ends votes ends → count is_yes votes ≤ yes_in ends
+fewest : {votes : List (Option Bool)} {ends : List Bool} → Ends votes ends → count is_yes votes ≤ yes_in ends
 unfolding count
 fewest none = omega arith
 fewest (yea e) = omega (arith, fewest e)
@@ -30,7 +29,7 @@ fewest (nay e) = fewest e
 fewest (free true e) = omega (arith, fewest e)
 fewest (free false e) = fewest e
 
-most : {votes : List Vote} {ends : List Bool} → Ends votes ends → yes_in ends ≤ count is_yes votes + count is_missing votes
+most : {votes : List (Option Bool)} {ends : List Bool} → Ends votes ends → yes_in ends ≤ count is_yes votes + count is_missing votes
 unfolding count
 most none = omega arith
 most (yea e) = omega (arith, most e)
@@ -39,32 +38,32 @@ most (free true e) = omega (arith, most e)
 most (free false e) = omega (arith, most e)
 
 -- Both are met: every missing vote becomes a no, or every one a yes.
-unfoldable filled : Bool → List Vote → List Bool
+unfoldable filled : Bool → List (Option Bool) → List Bool
 filled b [] = []
-filled b (vote.Missing ∷ votes) = b ∷ filled b votes
-filled b (vote.Yes ∷ votes) = true ∷ filled b votes
-filled b (vote.No ∷ votes) = false ∷ filled b votes
+filled b (None ∷ votes) = b ∷ filled b votes
+filled b (Some true ∷ votes) = true ∷ filled b votes
+filled b (Some false ∷ votes) = false ∷ filled b votes
 
-filled_ends : (b : Bool) (votes : List Vote) → Ends votes (filled b votes)
+filled_ends : (b : Bool) (votes : List (Option Bool)) → Ends votes (filled b votes)
 unfolding filled
 filled_ends b [] = none
-filled_ends b (vote.Missing ∷ votes) = free b (filled_ends b votes)
-filled_ends b (vote.Yes ∷ votes) = yea (filled_ends b votes)
-filled_ends b (vote.No ∷ votes) = nay (filled_ends b votes)
+filled_ends b (None ∷ votes) = free b (filled_ends b votes)
+filled_ends b (Some true ∷ votes) = yea (filled_ends b votes)
+filled_ends b (Some false ∷ votes) = nay (filled_ends b votes)
 
-all_no : (votes : List Vote) → yes_in (filled false votes) ≡ count is_yes votes
+all_no : (votes : List (Option Bool)) → yes_in (filled false votes) ≡ count is_yes votes
 unfolding filled count
 all_no [] = refl
-all_no (vote.Missing ∷ votes) = all_no votes
-all_no (vote.Yes ∷ votes) = ap suc (all_no votes)
-all_no (vote.No ∷ votes) = all_no votes
+all_no (None ∷ votes) = all_no votes
+all_no (Some true ∷ votes) = ap suc (all_no votes)
+all_no (Some false ∷ votes) = all_no votes
 
-all_yes : (votes : List Vote) → yes_in (filled true votes) ≡ count is_yes votes + count is_missing votes
+all_yes : (votes : List (Option Bool)) → yes_in (filled true votes) ≡ count is_yes votes + count is_missing votes
 unfolding filled count
 all_yes [] = omega arith
-all_yes (vote.Missing ∷ votes) = omega (arith, all_yes votes)
-all_yes (vote.Yes ∷ votes) = omega (arith, all_yes votes)
-all_yes (vote.No ∷ votes) = all_yes votes
+all_yes (None ∷ votes) = omega (arith, all_yes votes)
+all_yes (Some true ∷ votes) = omega (arith, all_yes votes)
+all_yes (Some false ∷ votes) = all_yes votes
 
 -- What the computation leaves open once one of its two tests is known.
 not_won : (b : Bool) → cond b result.Pending result.Lost ≡ result.Won → ⊥
@@ -83,7 +82,7 @@ module _ {W L : Type 0} where
   pub pending_if_neither : (r : VoteResult) → (r ≡ result.Won) ↔ W → (r ≡ result.Lost) ↔ L → (r ≡ result.Pending) ↔ ((¬ W) × (¬ L))
   pending_if_neither r won lost = ((λ e. ((λ w. never (cc (won.1 w))), (λ l. never (cc (lost.1 l))))), neither r won.0 lost.0)
 
-module _ (votes : List Vote) (some : 0 < length votes) where
+module _ (votes : List (Option Bool)) (some : 0 < length votes) where
   somebody : eqb (length votes) 0 ≡ false
   somebody = ne_eqb (length votes) 0 (λ e. omega arith)
 
@@ -124,17 +123,17 @@ pub nobody_wins : result_of [] ≡ result.Won
 nobody_wins = refl
 
 -- The order of the votes doesn't matter.
-pub result_reordered : {votes others : List Vote} → Reordered votes others → result_of votes ≡ result_of others
+pub result_reordered : {votes others : List (Option Bool)} → Reordered votes others → result_of votes ≡ result_of others
 result_reordered r = rw (length-reordered r, count_reordered is_yes r, count_reordered is_missing r)
 
 -- One half of a joint configuration, which may be empty.
-pub half_won : (votes : List Vote) → (result_of votes ≡ result.Won) ↔ Wins votes
+pub half_won : (votes : List (Option Bool)) → (result_of votes ≡ result.Won) ↔ Wins votes
 half_won [] = ((λ e some. let z : ⊥ = omega arith in absurd z), (λ w. nobody_wins))
 half_won (v ∷ votes) =
     let e : (result_of (v ∷ votes) ≡ result.Won) ↔ Sure (v ∷ votes) = won_exactly_if_sure (v ∷ votes) (omega arith) in
     ((λ won some. e.0 won), (λ w. e.1 (w (omega arith))))
 
-pub half_lost : (votes : List Vote) → (result_of votes ≡ result.Lost) ↔ Loses votes
+pub half_lost : (votes : List (Option Bool)) → (result_of votes ≡ result.Lost) ↔ Loses votes
 half_lost [] = ((λ e. never cc), (λ l. let w : ⊥ = omega (arith, l.0) in absurd w))
 half_lost (v ∷ votes) =
     let e : (result_of (v ∷ votes) ≡ result.Lost) ↔ Hopeless (v ∷ votes) = lost_exactly_if_hopeless (v ∷ votes) (omega arith) in

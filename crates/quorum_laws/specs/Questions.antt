@@ -2,8 +2,7 @@
 -- The rest is said of both halves at once.
 use Rattle.std.specs.Prelude.{ℕ, ◌≤◌, ◌≡◌, List, [], map, ◌⊎◌}
 use Rattle.units.specs.Units.{word_max}
-use Rattle.units.specs.Refusals.{both_checks}
-use Rattle.units.specs.declared.Check.TheVariants as check
+use Rattle.units.specs.Refusals.{both_checks, fine}
 use Rattle.units.specs.Lists.{Each}
 use Rattle.rules.specs.Count.{Reordered}
 use Rattle.quorum.specs.Rows.{ack_number, rows_check}
@@ -17,11 +16,11 @@ use Rattle.quorum_laws.specs.JointRule.{Wins, Loses}
 
 -- Nothing is wrong with the set, nor with the rows: none of what the table of 01 names in line 12, "over 7 voters, a repeated voter id, over 64 rows, a repeated row id".
 abbrev pub Whole : Voters → List Peer → Type 0
-Whole v peers = both_checks (voters_check v) (rows_check peers) ≡ check.Fine
+Whole v peers = both_checks (voters_check v) (rows_check peers) ≡ fine
 
 -- The same of a configuration. 01, Joint: "Two sets, incoming and outgoing."
 abbrev pub JointWhole : JointConfig → List Peer → Type 0
-JointWhole c peers = both_checks (config_check c) (rows_check peers) ≡ check.Fine
+JointWhole c peers = both_checks (config_check c) (rows_check peers) ≡ fine
 
 -- Each acknowledgement is a number of 64 bits, as the code's are: at most the index of nobody, which 01, Joint, names: "u64::MAX if both are empty".
 abbrev pub Words : List ℕ → Type 0

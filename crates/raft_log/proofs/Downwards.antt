@@ -7,9 +7,9 @@ use native.Mathlib.Omega.{arith}
 use borrow.Author.Tests.{le-leb, lt-leb, lt-ltb, le-ltb}
 use Rattle.units.specs.Units.{index_of, as_term}
 use Rattle.raft_log.specs.declared.Log.{Log}
-use Rattle.raft_log.specs.declared.ByTerm.TheVariants as by_term
 use Rattle.raft_log.specs.State.{term_at, last_of}
 use Rattle.raft_log.specs.Look.{at_most, last_down, by_term_in}
+use Rattle.std.specs.Prelude.{Ok, Some, None}
 
 -- the search from i down has passed every number above j
 pub record Down (p : ℕ → Bool) (i j : ℕ) : Type 0 where
@@ -48,11 +48,11 @@ module _ (l : Log) (settled pending : List ℕ) where
     above h = lt-leb (term_at l settled pending j) t (omega arith)
 
   module _ (i t : ℕ) where
-    pub by_beyond : last_of l < i → by_term_in l settled pending i t ≡ by_term.Beyond (index_of i)
+    pub by_beyond : last_of l < i → by_term_in l settled pending i t ≡ Ok (index_of i, None)
     unfolding by_term_in
     by_beyond h = simp (lt-ltb _ _ h)
 
     pub by_found : {j u : ℕ} → i ≤ last_of l → j ≡ last_down (at_most l settled pending t) i → u ≡ term_at l settled pending j
-        → by_term_in l settled pending i t ≡ by_term.Found (index_of j) (as_term u)
+        → by_term_in l settled pending i t ≡ Ok (index_of j, Some (as_term u))
     unfolding by_term_in
     by_found h e f = simp (le-ltb _ _ h, f, e)

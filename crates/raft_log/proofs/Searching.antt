@@ -6,6 +6,7 @@ use Prim.Native.Nat.{ℕ, zero, suc, ◌+◌, ◌-◌, ◌≤◌, ◌<◌}
 use native.Mathlib.Omega.{arith}
 use lib.Dec.{eqb}
 use borrow.Author.Tests.{eq-eqb, ne_eqb, eqb-true}
+use Rattle.std.specs.Prelude.{Option, Some, None, MatchOption, unwrap_or}
 use Rattle.units.proofs.Cond.{either_end}
 use Rattle.units.proofs.Numbers.{below_or_not}
 use Rattle.raft_log.specs.Words.{first_from, none}
@@ -84,6 +85,15 @@ found_is {p} {n} {r} {s} f g =
     (λ le. omega arith)
     (below_or_not s r))
     (below_or_not r s)
+
+-- the answer of a library search over the range up to n, with n for none
+pub first_in_range : (p : ℕ → Bool) (n : ℕ) (r : Option ℕ)
+    → MatchOption r ((k : ℕ) → 0 ≤ k → k < n → p k ≡ false) (λ i. (0 ≤ i) × (i < n) × (p i ≡ true) × ((k : ℕ) → 0 ≤ k → k < i → p k ≡ false))
+    → unwrap_or r n ≡ first_from p 0 n
+first_in_range p n None h =
+    found_is (record { within = omega arith; hit = λ l. absurd (omega arith); passed = λ j g l. h j g l }) (found p 0 n)
+first_in_range p n (Some i) h =
+    found_is (record { within = omega (arith, h.1); hit = λ l. h.2; passed = λ j g l. h.3 j g l }) (found p 0 n)
 
 -- p holds of none of n positions: as the test says, and of each
 module _ (p : ℕ → Bool) (n : ℕ) where

@@ -7,13 +7,13 @@ use native.Mathlib.Omega.{arith}
 use borrow.Author.Tests.{le-leb, leb-true, eq-eqb, ne_eqb}
 use lib.Dec.{eqb, leb}
 use Rattle.units.specs.Units.{index_limit}
-use Rattle.units.specs.Refusals.{broken_state, zero_term}
-use Rattle.raft_log.specs.declared.Changed.TheVariants.{Now, Refused}
+use Rattle.units.specs.declared.refusal.Refusal.TheVariants as refusal
 use Rattle.raft_log.specs.Words.{room, store_term, first_from, zero_at}
 use Rattle.raft_log.specs.State.{agree}
 use Rattle.raft_log.specs.Setup.{fresh, setup_ok, new_log}
 use Rattle.raft_log.proofs.States.{refuted}
 use Rattle.raft_log.proofs.Searching.{found}
+use Rattle.std.specs.Prelude.{Ok, Err}
 
 module _ (start startterm last : ℕ) (settled : List ℕ) where
   pub record SetsUp : Type 0 where
@@ -45,19 +45,19 @@ module _ (start startterm last : ℕ) (settled : List ℕ) where
   unfolding setup_ok
   room_left a b d = simp (a, le-leb _ _ b, le-leb _ _ d)
 
-  pub setup_broken : setup_ok start startterm last settled ≡ false → new_log start startterm last settled ≡ Refused broken_state
+  pub setup_broken : setup_ok start startterm last settled ≡ false → new_log start startterm last settled ≡ Err refusal.BrokenState
   unfolding new_log
   setup_broken h = simp h
 
   module _ (first : ℕ) (e : first ≡ first_from (zero_at (store_term settled)) 0 (last - start)) where
     pub setup_zero : setup_ok start startterm last settled ≡ true → first < last - start
-        → new_log start startterm last settled ≡ Refused zero_term
+        → new_log start startterm last settled ≡ Err refusal.ZeroTerm
     unfolding new_log
     setup_zero h z =
         simp (h, ne_eqb (first_from (zero_at (store_term settled)) 0 (last - start)) (last - start) (omega arith))
 
     pub setup_done : setup_ok start startterm last settled ≡ true → last - start ≤ first
-        → new_log start startterm last settled ≡ Now (fresh start startterm last)
+        → new_log start startterm last settled ≡ Ok (fresh start startterm last)
     unfolding new_log
     setup_done h z =
         let within = (found (zero_at (store_term settled)) 0 (last - start)).within in

@@ -8,40 +8,41 @@ use lib.Dec.{leb, ltb}
 use lib.ListN.{take, drop}
 use borrow.Author.Tests.{le-leb, lt-leb, lt-ltb, le-ltb, eq-eqb, ne_eqb, leb-true, ltb-true}
 use Rattle.units.specs.Units.{index_of, word_max}
-use Rattle.units.specs.Refusals.{out_of_range, below_first}
+use Rattle.units.specs.declared.refusal.Refusal.TheVariants as refusal
 use Rattle.raft_log.specs.declared.Log.{Log}
 use Rattle.raft_log.specs.declared.Bounds.TheVariants as bounds
 use Rattle.raft_log.specs.Words.{record_words, room}
 use Rattle.raft_log.specs.State.{last_of, broken}
 use Rattle.raft_log.specs.Slice.{in_store, slice_in, next_low, next_high, has_next, entries_bounds, next_entries_bounds_since, store_part}
 use Rattle.raft_log.proofs.States.{refuted}
+use Rattle.std.specs.Prelude.{Ok, Err}
 
 module _ (l : Log) (low high : ℕ) where
-  pub none_between : low ≡ high → in_store l low high ≡ bounds.Empty
+  pub none_between : low ≡ high → in_store l low high ≡ Ok bounds.Empty
   unfolding in_store
   none_between h = simp (eq-eqb _ _ h)
 
   module _ (some : low ≡ high → ⊥) where
     pub in_settled_lem : {end : ℕ} → low < l.offset.0 → end ≡ min high l.offset.0
-        → in_store l low high ≡ bounds.Settled (index_of low) (index_of end)
+        → in_store l low high ≡ Ok (bounds.Settled (index_of low) (index_of end))
     unfolding in_store
     in_settled_lem h e = simp (ne_eqb _ _ some, lt-ltb _ _ h, e)
 
-    pub in_pending_lem : l.offset.0 ≤ low → in_store l low high ≡ bounds.Pending (index_of low) (index_of high)
+    pub in_pending_lem : l.offset.0 ≤ low → in_store l low high ≡ Ok (bounds.Pending (index_of low) (index_of high))
     unfolding in_store
     in_pending_lem h = simp (ne_eqb _ _ some, le-ltb _ _ h)
 
-  pub slice_reversed : high < low → slice_in l low high ≡ bounds.Refused out_of_range
+  pub slice_reversed : high < low → slice_in l low high ≡ Err refusal.OutOfRange
   unfolding slice_in
   slice_reversed h = simp (lt-ltb _ _ h)
 
   module _ (order : low ≤ high) where
-    pub slice_below : low ≤ l.start.0 → slice_in l low high ≡ bounds.Refused below_first
+    pub slice_below : low ≤ l.start.0 → slice_in l low high ≡ Err refusal.BelowFirst
     unfolding slice_in
     slice_below h = simp (le-ltb _ _ order, le-leb _ _ h)
 
     module _ (first : l.start.0 < low) where
-      pub slice_beyond : last_of l + 1 < high → slice_in l low high ≡ bounds.Refused out_of_range
+      pub slice_beyond : last_of l + 1 < high → slice_in l low high ≡ Err refusal.OutOfRange
       unfolding slice_in
       slice_beyond h = simp (le-ltb _ _ order, lt-leb _ _ first, lt-ltb _ _ h)
 
@@ -66,7 +67,7 @@ module _ (l : Log) (s : ℕ) where
       (ltb-true _ _ p.0, ltb-true _ _ p.1)
 
 module _ (l : Log) (settled pending : List ℕ) (i : ℕ) (sound : broken l settled pending ≡ false) where
-  pub entries_none : last_of l < i → entries_bounds l settled pending i ≡ bounds.Empty
+  pub entries_none : last_of l < i → entries_bounds l settled pending i ≡ Ok bounds.Empty
   unfolding entries_bounds
   entries_none h = simp (sound, lt-ltb _ _ h)
 
@@ -74,7 +75,7 @@ module _ (l : Log) (settled pending : List ℕ) (i : ℕ) (sound : broken l sett
   unfolding entries_bounds
   entries_some e h = simp (sound, le-ltb (last_of l) i (omega arith), e)
 
-  pub next_none : has_next l i ≡ false → next_entries_bounds_since l settled pending i ≡ bounds.Empty
+  pub next_none : has_next l i ≡ false → next_entries_bounds_since l settled pending i ≡ Ok bounds.Empty
   unfolding next_entries_bounds_since
   next_none h = simp (sound, h)
 

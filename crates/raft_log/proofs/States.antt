@@ -121,10 +121,3 @@ module _ (l : Log) (settled pending : List ℕ) where
     zero_start =
         let same = agreed (eqb l.start.0 0) (eqb l.startterm.0 0) good.starts in
         (λ z. eqb-true _ _ (sym same ∙ eq-eqb _ _ z), λ z. eqb-true _ _ (same ∙ eq-eqb _ _ z))
-
--- what the code's `!state_ok(..)` tells: the rules, where it says no; and its answer is the test's
-pub passed : {l : Log} {settled pending : List ℕ} {told : Bool} → told ≡ state_ok l settled pending → not told ≡ false → Good l settled pending
-passed {l} {settled} {pending} e f = ok_good l settled pending (sym e ∙ not-false _ f)
-
-pub test_says : (l : Log) (settled pending : List ℕ) {told b : Bool} → told ≡ state_ok l settled pending → not told ≡ b → broken l settled pending ≡ b
-test_says l settled pending e f = ap not (sym e) ∙ f

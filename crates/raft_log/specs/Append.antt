@@ -1,10 +1,10 @@
 -- `maybe_append` of document 01. A reader must know: `maybe_append` is the answer with the whole new log, its refusals one ordered table of named tests; `maybe_append_store` is the pending store after it, word by word.
-use Rattle.std.specs.Prelude.{ℕ, ◌+◌, ◌-◌, min, max, Bool, not, ◌&&◌, ◌||◌, cond, List, eqb, leb, ltb}
+use Rattle.std.specs.Prelude.{ℕ, ◌+◌, ◌-◌, min, max, Bool, not, ◌&&◌, ◌||◌, cond, List, eqb, leb, ltb, Ok, Err}
 use Rattle.units.specs.Units.{index_of}
-use Rattle.units.specs.Refusals.{broken_state, misnumbered_run, zero_term, outside_log, mismatch, cuts_committed, no_room}
+use Rattle.units.specs.declared.refusal.Refusal.TheVariants as refusal
+use Rattle.units.specs.Refusals.{Answer}
 use Rattle.raft_log.specs.declared.Log.{Log}
 use Rattle.raft_log.specs.declared.Appended.{Appended}
-use Rattle.raft_log.specs.declared.Appended.TheVariants.{Done, Refused}
 use Rattle.raft_log.specs.Words.{room, run_count, run_term, first_from, put_run}
 use Rattle.raft_log.specs.State.{last_of, broken, term_at}
 use Rattle.raft_log.specs.Run.{misnumbered, zero_term_in}
@@ -80,34 +80,34 @@ abbrev pub overfull : Log → List ℕ → Bool
 overfull after pending = ltb (room pending) after.count
 
 -- "Answer: conflict and idx + count."
-abbrev pub accepted : ℕ → ℕ → ℕ → Log → Appended
-accepted idx n k after = Done (index_of (conflict_of idx n k)) (index_of (idx + n)) after
+abbrev pub accepted : ℕ → ℕ → ℕ → Log → Answer Appended
+accepted idx n k after = Ok (record { conflict = index_of (conflict_of idx n k); last = index_of (idx + n); log = after })
 
 -- The part of the table that reads no word of a run or a store, 6 before 7 ("The lowest number wins"): n records, k of them before the first that differs.
-unfoldable pub decide : Log → List ℕ → ℕ → ℕ → ℕ → ℕ → Appended
+unfoldable pub decide : Log → List ℕ → ℕ → ℕ → ℕ → ℕ → Answer Appended
 decide l pending idx commit n k =
-    cond (cuts l idx n k) (Refused cuts_committed)
-    (cond (overfull (after_message l idx n k commit) pending) (Refused no_room)
+    cond (cuts l idx n k) (Err refusal.CutsCommitted)
+    (cond (overfull (after_message l idx n k commit) pending) (Err refusal.NoRoom)
     (accepted idx n k (after_message l idx n k commit)))
 
 -- The part of it that comes after the run's own checks, from "If term(idx) is the given term" on: n is how many records the run has.
-unfoldable pub match_run : Log → List ℕ → List ℕ → ℕ → ℕ → ℕ → List ℕ → ℕ → Appended
+unfoldable pub match_run : Log → List ℕ → List ℕ → ℕ → ℕ → ℕ → List ℕ → ℕ → Answer Appended
 match_run l settled pending idx term commit run n =
-    cond (outside l idx term) (Refused outside_log)
-    (cond (mismatched l settled pending idx term) (Refused mismatch)
+    cond (outside l idx term) (Err refusal.OutsideLog)
+    (cond (mismatched l settled pending idx term) (Err refusal.Mismatch)
     (decide l pending idx commit n (alike_before l settled pending idx run n)))
 
 -- THE PROMISE of `maybe_append(idx, term, commit, run)`: the whole table, in document 01's order: "The lowest number wins".
-unfoldable pub maybe_append : Log → List ℕ → List ℕ → ℕ → ℕ → ℕ → List ℕ → Appended
+unfoldable pub maybe_append : Log → List ℕ → List ℕ → ℕ → ℕ → ℕ → List ℕ → Answer Appended
 maybe_append l settled pending idx term commit run =
-    cond (broken l settled pending) (Refused broken_state)
-    (cond (misnumbered run idx) (Refused misnumbered_run)
-    (cond (zero_term_in run) (Refused zero_term)
+    cond (broken l settled pending) (Err refusal.BrokenState)
+    (cond (misnumbered run idx) (Err refusal.MisnumberedRun)
+    (cond (zero_term_in run) (Err refusal.ZeroTerm)
     (match_run l settled pending idx term commit run (run_count run))))
 
 -- The pending store after an answer: the run's records from the conflict on, each at its place. Where nothing is cut, nothing is written. 01: "A call writes only the records it adds or copies; every other word stays."
-unfoldable pub maybe_append_store : Appended → List ℕ → ℕ → List ℕ → List ℕ
-maybe_append_store (Refused number) pending idx run = pending
-maybe_append_store (Done conflict last l) pending idx run =
-    cond (eqb conflict.0 0) pending
-    (put_run pending (conflict.0 - l.offset.0) run (conflict.0 - idx - 1) (last.0 + 1 - conflict.0))
+unfoldable pub maybe_append_store : Answer Appended → List ℕ → ℕ → List ℕ → List ℕ
+maybe_append_store (Err number) pending idx run = pending
+maybe_append_store (Ok a) pending idx run =
+    cond (eqb a.conflict.0 0) pending
+    (put_run pending (a.conflict.0 - a.log.offset.0) run (a.conflict.0 - idx - 1) (a.last.0 + 1 - a.conflict.0))

@@ -1,9 +1,8 @@
 -- What refusals 2 and 3 say of a run. A reader must know: `misnumbered` and `zero_term_in` are the two tests; `idx` is the index that the run follows on.
-use Rattle.std.specs.Prelude.{ℕ, ◌+◌, ◌%◌, Bool, not, ◌&&◌, cond, List, eqb, leb, length}
+use Rattle.std.specs.Prelude.{ℕ, ◌+◌, ◌%◌, Bool, not, ◌&&◌, cond, List, eqb, leb, length, Ok, Err}
 use Rattle.units.specs.Units.{index_limit}
-use Rattle.units.specs.Refusals.{misnumbered_run, zero_term}
-use Rattle.raft_log.specs.declared.run.Checked.{Checked}
-use Rattle.raft_log.specs.declared.run.Checked.TheVariants as checked
+use Rattle.units.specs.declared.refusal.Refusal.TheVariants as refusal
+use Rattle.units.specs.Refusals.{Answer, Check, fine}
 use Rattle.raft_log.specs.Words.{run_words, run_count, run_index, run_term, none, zero_at}
 
 -- Record k does not have the index that its place after idx asks: "indices not rising by one from idx + 1".
@@ -29,15 +28,10 @@ terms_set run = none (zero_at (run_term run)) (run_count run)
 abbrev pub zero_term_in : List ℕ → Bool
 zero_term_in run = not (terms_set run)
 
--- Inner: what the code's one pass over a run finds, as a number: 2 before 3, since "The lowest number wins".
-unfoldable pub scan_run : List ℕ → ℕ → ℕ → ℕ
-scan_run run idx n = cond (none (misplaced run idx) n) (cond (none (zero_at (run_term run)) n) 0 zero_term) misnumbered_run
+-- Inner: what the code's one pass over a run finds: 2 before 3, since "The lowest number wins".
+unfoldable pub scan_run : List ℕ → ℕ → ℕ → Check
+scan_run run idx n = cond (none (misplaced run idx) n) (cond (none (zero_at (run_term run)) n) fine (Err refusal.ZeroTerm)) (Err refusal.MisnumberedRun)
 
 -- Inner: the check of a run, 2 before 3, since "The lowest number wins"; or how many records it has.
-unfoldable pub check_run : List ℕ → ℕ → Checked
-check_run run idx = cond (numbered run idx) (cond (terms_set run) (checked.Records (run_count run)) (checked.Refused zero_term)) (checked.Refused misnumbered_run)
-
--- Inner: the number of a check, 0 where it refuses nothing. 01: "Every refusal returns its number alone".
-abbrev pub refused_by : Checked → ℕ
-refused_by (checked.Records n) = 0
-refused_by (checked.Refused number) = number
+unfoldable pub check_run : List ℕ → ℕ → Answer ℕ
+check_run run idx = cond (numbered run idx) (cond (terms_set run) (Ok (run_count run)) (Err refusal.ZeroTerm)) (Err refusal.MisnumberedRun)

@@ -1,10 +1,9 @@
 -- Set-up, `new`: handed the start (index, term), the last settled index and both stores. A reader must know: refusal 1 where they break the state rules, then 3 for a zero term in settled.
-use Rattle.std.specs.Prelude.{ℕ, ◌+◌, ◌-◌, Bool, not, ◌&&◌, cond, List, eqb, leb}
+use Rattle.std.specs.Prelude.{ℕ, ◌+◌, ◌-◌, Bool, not, ◌&&◌, cond, List, eqb, leb, Ok, Err}
 use Rattle.units.specs.Units.{index_of, as_term, index_limit}
-use Rattle.units.specs.Refusals.{broken_state, zero_term}
+use Rattle.units.specs.declared.refusal.Refusal.TheVariants as refusal
+use Rattle.units.specs.Refusals.{Answer}
 use Rattle.raft_log.specs.declared.Log.{Log}
-use Rattle.raft_log.specs.declared.Changed.{Changed}
-use Rattle.raft_log.specs.declared.Changed.TheVariants as changed
 use Rattle.raft_log.specs.Words.{room, store_term, none, zero_at}
 use Rattle.raft_log.specs.State.{agree}
 
@@ -33,7 +32,7 @@ abbrev pub settled_zero : List ℕ → ℕ → Bool
 settled_zero settled n = not (none (zero_at (store_term settled)) n)
 
 -- THE PROMISE of `new`: 1, then 3, "a zero term .. in settled at set-up", else the log above.
-unfoldable pub new_log : ℕ → ℕ → ℕ → List ℕ → Changed
+unfoldable pub new_log : ℕ → ℕ → ℕ → List ℕ → Answer Log
 new_log start startterm last settled =
-    cond (not (setup_ok start startterm last settled)) (changed.Refused broken_state)
-    (cond (settled_zero settled (last - start)) (changed.Refused zero_term) (changed.Now (fresh start startterm last)))
+    cond (not (setup_ok start startterm last settled)) (Err refusal.BrokenState)
+    (cond (settled_zero settled (last - start)) (Err refusal.ZeroTerm) (Ok (fresh start startterm last)))

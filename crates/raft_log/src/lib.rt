@@ -2,6 +2,7 @@
 // The log of document 01 (raft_log.rs, log_unstable.rs): its state by value, its records in two lent stores.
 // Ported from raft 0.7.0, Copyright 2019 TiKV Project Authors, Copyright 2015 The etcd Authors, Apache-2.0 (see NOTICE).
 mod append;
+mod held;
 mod reads;
 mod run;
 mod state;
@@ -18,14 +19,13 @@ ghost use Rattle.raft_log.specs.Slice.{slice_bounds, entries_bounds, has_next_en
 ghost use Rattle.raft_log.specs.Setup.{setup_ok, new_log};
 
 use append::{append_run_answer, maybe_append_answer};
-use state::{last_of, state_ok, term_at};
-use units::refusal::{BROKEN_STATE, NO_ROOM, NOT_PENDING, OUT_OF_RANGE, ZERO_TERM};
+use units::refusal::Refusal;
 use units::words::copy_at;
-use units::{Index, Term, YesOrNo, smaller};
+use units::{Index, Term};
 use words::store_term;
 
 // The state beside the stores: settled holds the records start + 1 to offset - 1, pending those from offset on.
-#[derive(Clone, Copy)]
+#[derive(Clone, Copy, Debug, PartialEq, Eq)]
 pub struct Log {
     pub start: Index,
     pub startterm: Term,
@@ -36,68 +36,20 @@ pub struct Log {
     pub applied: Index,
 }
 
-// The answers, one for each shape: the value, or the refusal's number alone.
-#[derive(Clone, Copy)]
-pub enum Appended {
-    Done {
-        conflict: Index,
-        last: Index,
-        log: Log,
-    },
-    Refused(u64),
-}
-
-#[derive(Clone, Copy)]
-pub enum Extended {
-    Last(Index, Log),
-    Refused(u64),
-}
-
-#[derive(Clone, Copy)]
-pub enum Changed {
-    Now(Log),
-    Refused(u64),
-}
-
-#[derive(Clone, Copy)]
-pub enum Decided {
-    Yes(Log),
-    No,
-    Refused(u64),
-}
-
-#[derive(Clone, Copy)]
-pub enum Looked {
-    At(Term),
-    Refused(u64),
-}
-
-#[derive(Clone, Copy)]
-pub enum Placed {
-    At(Index),
-    Refused(u64),
-}
-
-#[derive(Clone, Copy)]
-pub enum Info {
-    At(Index, Term),
-    Refused(u64),
-}
-
-#[derive(Clone, Copy)]
-pub enum ByTerm {
-    Found { index: Index, term: Term },
-    Beyond(Index),
-    Refused(u64),
+// What `maybe_append` answers: the first index that differed, 0 if none, the run's last, and the log as it is now.
+#[derive(Clone, Copy, Debug, PartialEq, Eq)]
+pub struct Appended {
+    pub conflict: Index,
+    pub last: Index,
+    pub log: Log,
 }
 
 // Where a run of records stands: the indices from low up to, not including, high, in one store.
-#[derive(Clone, Copy)]
+#[derive(Clone, Copy, Debug, PartialEq, Eq)]
 pub enum Bounds {
     Empty,
     Settled { low: Index, high: Index },
     Pending { low: Index, high: Index },
-    Refused(u64),
 }
 
 impl Log {
@@ -115,21 +67,20 @@ impl Log {
         last: Index,
         settled: &[u64],
         pending: &[u64],
-    ) -> Changed
+    ) -> Result<Log, Refusal>
         ensures { result ≡ new_log start.0 start_term.0 last.0 settled.now }
     {
         if !setup_ok(start.0, start_term.0, last.0, settled) {
-            return Changed::Refused(BROKEN_STATE);
+            return Err(Refusal::BrokenState);
         }
         let count = last.0 - start.0;
         if first_zero(settled, count) < count {
-            return Changed::Refused(ZERO_TERM);
+            return Err(Refusal::ZeroTerm);
         }
-        let next = last.0 + 1;
-        Changed::Now(Log {
+        Ok(Log {
             start,
             startterm: start_term,
-            offset: Index(next),
+            offset: Index(last.0 + 1),
             count: 0,
             committed: start,
             persisted: last,
@@ -138,98 +89,84 @@ impl Log {
     }
 
     // The term at an index, 0 outside the log.
-    #[tactic(auto, using(crate::proofs::States::ok_good), unfolding(crate::specs::Look::look_term))]
-    pub fn term(self, settled: &[u64], pending: &[u64], i: Index) -> Looked
+    #[tactic(auto, unfolding(crate::specs::Look::look_term))]
+    pub fn term(self, settled: &[u64], pending: &[u64], i: Index) -> Result<Term, Refusal>
         ensures { result ≡ look_term self settled.now pending.now i.0 }
     {
-        if !state_ok(self, settled, pending) {
-            return Looked::Refused(BROKEN_STATE);
-        }
-        let term = term_at(self, settled, pending, i.0);
-        Looked::At(Term(term))
+        let held = self.held(settled, pending)?;
+        Ok(Term(held.term(i.0)))
     }
 
-    #[tactic(auto, using(crate::proofs::States::ok_good), unfolding(crate::specs::Look::first_index))]
-    pub fn first_index(self, settled: &[u64], pending: &[u64]) -> Placed
+    #[tactic(auto, unfolding(crate::specs::Look::first_index))]
+    pub fn first_index(self, settled: &[u64], pending: &[u64]) -> Result<Index, Refusal>
         ensures { result ≡ first_index self settled.now pending.now }
     {
-        if !state_ok(self, settled, pending) {
-            return Placed::Refused(BROKEN_STATE);
-        }
-        let first = self.start.0 + 1;
-        Placed::At(Index(first))
+        self.held(settled, pending)?;
+        Ok(Index(self.start.0 + 1))
     }
 
-    #[tactic(auto, using(crate::proofs::States::ok_good), unfolding(crate::specs::Look::last_index))]
-    pub fn last_index(self, settled: &[u64], pending: &[u64]) -> Placed
+    #[tactic(auto, unfolding(crate::specs::Look::last_index))]
+    pub fn last_index(self, settled: &[u64], pending: &[u64]) -> Result<Index, Refusal>
         ensures { result ≡ last_index self settled.now pending.now }
     {
-        if !state_ok(self, settled, pending) {
-            return Placed::Refused(BROKEN_STATE);
-        }
-        let last = last_of(self, settled, pending);
-        Placed::At(Index(last))
+        let held = self.held(settled, pending)?;
+        Ok(Index(held.last()))
     }
 
-    #[tactic(auto, using(crate::proofs::States::ok_good), unfolding(crate::specs::Look::last_term))]
-    pub fn last_term(self, settled: &[u64], pending: &[u64]) -> Looked
+    #[tactic(auto, unfolding(crate::specs::Look::last_term))]
+    pub fn last_term(self, settled: &[u64], pending: &[u64]) -> Result<Term, Refusal>
         ensures { result ≡ last_term self settled.now pending.now }
     {
-        if !state_ok(self, settled, pending) {
-            return Looked::Refused(BROKEN_STATE);
-        }
-        let last = last_of(self, settled, pending);
-        let term = term_at(self, settled, pending, last);
-        Looked::At(Term(term))
+        let held = self.held(settled, pending)?;
+        Ok(Term(held.term(held.last())))
     }
 
     // The index and the term of the last committed record.
-    #[tactic(auto, using(crate::proofs::States::ok_good), unfolding(crate::specs::Look::commit_info))]
-    pub fn commit_info(self, settled: &[u64], pending: &[u64]) -> Info
+    #[tactic(auto, unfolding(crate::specs::Look::commit_info))]
+    pub fn commit_info(self, settled: &[u64], pending: &[u64]) -> Result<(Index, Term), Refusal>
         ensures { result ≡ commit_info self settled.now pending.now }
     {
-        if !state_ok(self, settled, pending) {
-            return Info::Refused(BROKEN_STATE);
-        }
-        let committed = self.committed.0;
-        let term = term_at(self, settled, pending, committed);
-        Info::At(Index(committed), Term(term))
+        let held = self.held(settled, pending)?;
+        let committed = self.committed;
+        Ok((committed, Term(held.term(committed.0))))
     }
 
     // Whether a log that ends with (i, t) is at least as up to date as this one.
-    #[tactic(auto, using(crate::proofs::States::ok_good), unfolding(crate::specs::Look::is_up_to_date))]
-    pub fn is_up_to_date(self, settled: &[u64], pending: &[u64], i: Index, t: Term) -> YesOrNo
+    #[tactic(auto, unfolding(crate::specs::Look::is_up_to_date))]
+    pub fn is_up_to_date(
+        self,
+        settled: &[u64],
+        pending: &[u64],
+        i: Index,
+        t: Term,
+    ) -> Result<bool, Refusal>
         ensures { result ≡ is_up_to_date self settled.now pending.now i.0 t.0 }
     {
-        if !state_ok(self, settled, pending) {
-            return YesOrNo::Refused(BROKEN_STATE);
-        }
-        let last = last_of(self, settled, pending);
-        let term = term_at(self, settled, pending, last);
+        let held = self.held(settled, pending)?;
+        let last = held.last();
+        let term = held.term(last);
         if term < t.0 {
-            return YesOrNo::Is(true);
+            return Ok(true);
         }
         if t.0 != term {
-            return YesOrNo::Is(false);
+            return Ok(false);
         }
-        YesOrNo::Is(last <= i.0)
+        Ok(last <= i.0)
     }
 
     // The largest index at most i whose term is at most t, with its term.
-    #[tactic(auto, using(crate::proofs::States::ok_good), unfolding(crate::specs::Look::find_conflict_by_term))]
+    #[tactic(auto, unfolding(crate::specs::Look::find_conflict_by_term))]
     pub fn find_conflict_by_term(
         self,
         settled: &[u64],
         pending: &[u64],
         i: Index,
         t: Term,
-    ) -> ByTerm
+    ) -> Result<(Index, Option<Term>), Refusal>
         ensures { result ≡ find_conflict_by_term self settled.now pending.now i.0 t.0 }
     {
-        if !state_ok(self, settled, pending) {
-            return ByTerm::Refused(BROKEN_STATE);
-        }
-        reads::by_term(self, settled, pending, i.0, t.0)
+        let held = self.held(settled, pending)?;
+        Ok(held.by_term(i.0, t.0))
     }
 
     // AppendEntries at the receiver: the answer, the log after it, and the pending store.
@@ -242,162 +179,169 @@ impl Log {
         term: Term,
         commit: Index,
         run: &[u64],
-    ) -> Appended
+    ) -> Result<Appended, Refusal>
         ensures answer { result ≡ maybe_append self settled.now pending.old idx.0 term.0 commit.0 run.now }
         ensures store { pending.new ≡ maybe_append_store result pending.old idx.0 run.now }
     {
-        let answer = maybe_append_answer(self, settled, pending, idx.0, term.0, commit.0, run);
-        let Appended::Done {
+        let answer = maybe_append_answer(self, settled, pending, idx.0, term.0, commit.0, run)?;
+        let Appended {
             conflict,
             last,
             log,
-        } = answer
-        else {
-            return answer;
-        };
+        } = answer;
         if conflict.0 == 0 {
-            return answer;
+            return Ok(answer);
         }
         let at = conflict.0 - log.offset.0;
         let from = conflict.0 - idx.0 - 1;
         let n = last.0 + 1 - conflict.0;
         words::put_run(pending, at, run, from, n);
-        answer
+        Ok(answer)
     }
 
     // The leader's own records, cut in from the run's first index.
     #[tactic(auto, using(crate::proofs::Extending::extend_cut))]
-    pub fn append(self, settled: &[u64], pending: &mut [u64], run: &[u64]) -> Extended
+    pub fn append(
+        self,
+        settled: &[u64],
+        pending: &mut [u64],
+        run: &[u64],
+    ) -> Result<(Index, Log), Refusal>
         ensures answer { result ≡ append_run self settled.now pending.old run.now }
         ensures store { pending.new ≡ append_run_store result pending.old run.now }
     {
-        let answer = append_run_answer(self, settled, pending, run);
-        let Extended::Last(_, log) = answer else {
-            return answer;
-        };
+        let (last, log) = append_run_answer(self, settled, pending, run)?;
         if run.len() == 0 {
-            return answer;
+            return Ok((last, log));
         }
         let at = words::run_index(run, 0) - log.offset.0;
         let n = words::run_count(run);
         words::put_run(pending, at, run, 0, n);
-        answer
+        Ok((last, log))
     }
 
     // Committed is i, where it was below.
-    #[tactic(auto, using(crate::proofs::States::ok_good), unfolding(crate::specs::Commit::commit_to))]
-    pub fn commit_to(self, settled: &[u64], pending: &[u64], i: Index) -> Changed
+    #[tactic(auto, unfolding(crate::specs::Commit::commit_to))]
+    pub fn commit_to(self, settled: &[u64], pending: &[u64], i: Index) -> Result<Log, Refusal>
         ensures { result ≡ commit_to self settled.now pending.now i.0 }
     {
-        if !state_ok(self, settled, pending) {
-            return Changed::Refused(BROKEN_STATE);
+        let held = self.held(settled, pending)?;
+        if i.0 <= self.committed.0 {
+            return Ok(self);
         }
-        let to = i.0;
-        if to <= self.committed.0 {
-            return Changed::Now(self);
+        if held.last() < i.0 {
+            return Err(Refusal::OutOfRange);
         }
-        if last_of(self, settled, pending) < to {
-            return Changed::Refused(OUT_OF_RANGE);
-        }
-        let mut log = self;
-        log.committed.0 = to;
-        Changed::Now(log)
+        Ok(Log {
+            committed: i,
+            ..self
+        })
     }
 
     // Commits i where it is a record of term t above committed.
-    #[tactic(auto, using(crate::proofs::States::ok_good), unfolding(crate::specs::Commit::maybe_commit))]
-    pub fn maybe_commit(self, settled: &[u64], pending: &[u64], i: Index, t: Term) -> Decided
+    #[tactic(auto, unfolding(crate::specs::Commit::maybe_commit))]
+    pub fn maybe_commit(
+        self,
+        settled: &[u64],
+        pending: &[u64],
+        i: Index,
+        t: Term,
+    ) -> Result<Option<Log>, Refusal>
         ensures { result ≡ maybe_commit self settled.now pending.now i.0 t.0 }
     {
-        if !state_ok(self, settled, pending) {
-            return Decided::Refused(BROKEN_STATE);
+        let held = self.held(settled, pending)?;
+        if i.0 <= self.committed.0 {
+            return Ok(None);
         }
-        let to = i.0;
-        if to <= self.committed.0 {
-            return Decided::No;
+        if held.last() < i.0 {
+            return Ok(None);
         }
-        if last_of(self, settled, pending) < to {
-            return Decided::No;
+        if held.term(i.0) != t.0 {
+            return Ok(None);
         }
-        if term_at(self, settled, pending, to) != t.0 {
-            return Decided::No;
-        }
-        let mut log = self;
-        log.committed.0 = to;
-        Decided::Yes(log)
+        Ok(Some(Log {
+            committed: i,
+            ..self
+        }))
     }
 
     // Applied is i; 0 changes nothing.
-    #[tactic(auto, using(crate::proofs::States::ok_good), unfolding(crate::specs::Commit::applied_to))]
-    pub fn applied_to(self, settled: &[u64], pending: &[u64], i: Index) -> Changed
+    #[tactic(auto, unfolding(crate::specs::Commit::applied_to))]
+    pub fn applied_to(self, settled: &[u64], pending: &[u64], i: Index) -> Result<Log, Refusal>
         ensures { result ≡ applied_to self settled.now pending.now i.0 }
     {
-        if !state_ok(self, settled, pending) {
-            return Changed::Refused(BROKEN_STATE);
+        self.held(settled, pending)?;
+        if i.0 == 0 {
+            return Ok(self);
         }
-        let to = i.0;
-        if to == 0 {
-            return Changed::Now(self);
+        if self.committed.0.min(self.persisted.0) < i.0 {
+            return Err(Refusal::OutOfRange);
         }
-        if smaller(self.committed.0, self.persisted.0) < to {
-            return Changed::Refused(OUT_OF_RANGE);
+        if i.0 < self.applied.0 {
+            return Err(Refusal::OutOfRange);
         }
-        if to < self.applied.0 {
-            return Changed::Refused(OUT_OF_RANGE);
-        }
-        let mut log = self;
-        log.applied.0 = to;
-        Changed::Now(log)
+        Ok(Log { applied: i, ..self })
     }
 
     // Persisted is i where it is a settled record of term t above persisted.
-    #[tactic(auto, using(crate::proofs::States::ok_good), unfolding(crate::specs::Commit::maybe_persist))]
-    pub fn maybe_persist(self, settled: &[u64], pending: &[u64], i: Index, t: Term) -> Decided
+    #[tactic(auto, unfolding(crate::specs::Commit::maybe_persist))]
+    pub fn maybe_persist(
+        self,
+        settled: &[u64],
+        pending: &[u64],
+        i: Index,
+        t: Term,
+    ) -> Result<Option<Log>, Refusal>
         ensures { result ≡ maybe_persist self settled.now pending.now i.0 t.0 }
     {
-        if !state_ok(self, settled, pending) {
-            return Decided::Refused(BROKEN_STATE);
+        self.held(settled, pending)?;
+        if i.0 <= self.persisted.0 {
+            return Ok(None);
         }
-        let to = i.0;
-        if to <= self.persisted.0 {
-            return Decided::No;
+        if self.offset.0 <= i.0 {
+            return Ok(None);
         }
-        if self.offset.0 <= to {
-            return Decided::No;
+        if store_term(settled, i.0 - self.start.0 - 1) != t.0 {
+            return Ok(None);
         }
-        if store_term(settled, to - self.start.0 - 1) != t.0 {
-            return Decided::No;
-        }
-        let mut log = self;
-        log.persisted.0 = to;
-        Decided::Yes(log)
+        Ok(Some(Log {
+            persisted: i,
+            ..self
+        }))
     }
 
     // Pending records that were written go over to the settled ones.
     #[tactic(auto, using(crate::proofs::Settling::settle_room))]
-    pub fn stable_entries(self, settled: &mut [u64], pending: &[u64], i: Index, t: Term) -> Changed
+    pub fn stable_entries(
+        self,
+        settled: &mut [u64],
+        pending: &[u64],
+        i: Index,
+        t: Term,
+    ) -> Result<Log, Refusal>
         ensures answer { result ≡ stable_entries self settled.old pending.now i.0 t.0 }
         ensures store { settled.new ≡ stable_entries_store result self settled.old pending.now }
     {
-        let answer = stable_entries_answer(self, settled, pending, i.0, t.0);
-        let Changed::Now(_) = answer else {
-            return answer;
-        };
+        let after = stable_entries_answer(self, settled, pending, i.0, t.0)?;
         let at = (self.offset.0 - 1 - self.start.0) as usize;
         let n = self.count as usize;
         copy_at(settled, at * Log::WORDS, &pending[..n * Log::WORDS]);
-        answer
+        Ok(after)
     }
 
     // The bounds of the records from low up to high, or the refusal.
-    #[tactic(auto, using(crate::proofs::States::ok_good), unfolding(crate::specs::Slice::slice_bounds))]
-    pub fn slice_bounds(self, settled: &[u64], pending: &[u64], low: Index, high: Index) -> Bounds
+    #[tactic(auto, unfolding(crate::specs::Slice::slice_bounds))]
+    pub fn slice_bounds(
+        self,
+        settled: &[u64],
+        pending: &[u64],
+        low: Index,
+        high: Index,
+    ) -> Result<Bounds, Refusal>
         ensures { result ≡ slice_bounds self settled.now pending.now low.0 high.0 }
     {
-        if !state_ok(self, settled, pending) {
-            return Bounds::Refused(BROKEN_STATE);
-        }
-        reads::slice_in(self, settled, pending, low.0, high.0)
+        let held = self.held(settled, pending)?;
+        held.bounds(low.0, high.0)
     }
 
     // The records themselves: a part of the store that holds them, empty where the bounds are refused.
@@ -415,18 +359,21 @@ impl Log {
     }
 
     // All records from i on, as far as one store holds them.
-    #[tactic(auto, using(crate::proofs::States::ok_good), unfolding(crate::specs::Slice::entries_bounds))]
-    pub fn entries_bounds(self, settled: &[u64], pending: &[u64], i: Index) -> Bounds
+    #[tactic(auto, unfolding(crate::specs::Slice::entries_bounds))]
+    pub fn entries_bounds(
+        self,
+        settled: &[u64],
+        pending: &[u64],
+        i: Index,
+    ) -> Result<Bounds, Refusal>
         ensures { result ≡ entries_bounds self settled.now pending.now i.0 }
     {
-        if !state_ok(self, settled, pending) {
-            return Bounds::Refused(BROKEN_STATE);
-        }
-        let last = last_of(self, settled, pending);
+        let held = self.held(settled, pending)?;
+        let last = held.last();
         if last < i.0 {
-            return Bounds::Empty;
+            return Ok(Bounds::Empty);
         }
-        reads::slice_in(self, settled, pending, i.0, last + 1)
+        held.bounds(i.0, last + 1)
     }
 
     pub fn entries<'a>(self, settled: &'a [u64], pending: &'a [u64], i: Index) -> &'a [u64]
@@ -437,30 +384,36 @@ impl Log {
     }
 
     // Whether records after s are committed and persisted.
-    #[tactic(auto, using(crate::proofs::States::ok_good), unfolding(crate::specs::Slice::has_next_entries_since))]
-    pub fn has_next_entries_since(self, settled: &[u64], pending: &[u64], s: Index) -> YesOrNo
+    #[tactic(auto, unfolding(crate::specs::Slice::has_next_entries_since))]
+    pub fn has_next_entries_since(
+        self,
+        settled: &[u64],
+        pending: &[u64],
+        s: Index,
+    ) -> Result<bool, Refusal>
         ensures { result ≡ has_next_entries_since self settled.now pending.now s.0 }
     {
-        if !state_ok(self, settled, pending) {
-            return YesOrNo::Refused(BROKEN_STATE);
-        }
-        YesOrNo::Is(reads::has_next(self, settled, pending, s.0))
+        let held = self.held(settled, pending)?;
+        Ok(held.has_next(s.0))
     }
 
     // Those records, as far as one store holds them.
-    #[tactic(auto, using(crate::proofs::States::ok_good), unfolding(crate::specs::Slice::next_entries_bounds_since))]
-    pub fn next_entries_bounds_since(self, settled: &[u64], pending: &[u64], s: Index) -> Bounds
+    #[tactic(auto, unfolding(crate::specs::Slice::next_entries_bounds_since))]
+    pub fn next_entries_bounds_since(
+        self,
+        settled: &[u64],
+        pending: &[u64],
+        s: Index,
+    ) -> Result<Bounds, Refusal>
         ensures { result ≡ next_entries_bounds_since self settled.now pending.now s.0 }
     {
-        if !state_ok(self, settled, pending) {
-            return Bounds::Refused(BROKEN_STATE);
+        let held = self.held(settled, pending)?;
+        if !held.has_next(s.0) {
+            return Ok(Bounds::Empty);
         }
-        if !reads::has_next(self, settled, pending, s.0) {
-            return Bounds::Empty;
-        }
-        let low = state::larger(s.0 + 1, self.start.0 + 1);
-        let high = smaller(self.committed.0, self.persisted.0) + 1;
-        reads::in_store(self, low, high)
+        let low = (s.0 + 1).max(self.start.0 + 1);
+        let high = self.committed.0.min(self.persisted.0) + 1;
+        Ok(reads::in_store(self, low, high))
     }
 
     pub fn next_entries_since<'a>(
@@ -478,14 +431,23 @@ impl Log {
 
 // The part that the bounds name.
 #[tactic(auto, unfolding(crate::specs::Slice::part_of))]
-fn part<'a>(log: Log, settled: &'a [u64], pending: &'a [u64], bounds: Bounds) -> &'a [u64]
+fn part<'a>(
+    log: Log,
+    settled: &'a [u64],
+    pending: &'a [u64],
+    bounds: Result<Bounds, Refusal>,
+) -> &'a [u64]
     ensures { result.now ≡ part_of bounds log settled.now pending.now }
 {
     match bounds {
-        Bounds::Empty => &pending[..0],
-        Bounds::Settled { low, high } => settled_part(settled, log.start.0, low.0, high.0),
-        Bounds::Pending { low, high } => reads::store_part(pending, log.offset.0, low.0, high.0),
-        Bounds::Refused(_) => &pending[..0],
+        Ok(Bounds::Settled { low, high }) => settled_part(settled, log.start.0, low.0, high.0),
+        Ok(Bounds::Pending { low, high }) => reads::store_part(
+            pending,
+            log.offset.0,
+            low.0,
+            high.0,
+        ),
+        Ok(Bounds::Empty) | Err(_) => &pending[..0],
     }
 }
 
@@ -522,40 +484,37 @@ fn first_zero(store: &[u64], n: u64) -> u64
     requires { n ≤ room store.now }
     ensures { result ≡ first_from (zero_at (store_term store.now)) 0 n }
 {
-    let mut k = 0;
-    while k < n {
-        if store_term(store, k) == 0 {
-            return k;
-        }
-        k += 1;
-    }
-    n
+    (0..n).find(|&k| store_term(store, k) == 0).unwrap_or(n)
 }
 
 // Refusals 1, 7 and 10 of `stable_entries`, or the log after it.
-#[tactic(auto, using(crate::proofs::States::ok_good), unfolding(crate::specs::Settle::stable_entries))]
-fn stable_entries_answer(log: Log, settled: &[u64], pending: &[u64], i: u64, t: u64) -> Changed
+#[tactic(auto, unfolding(crate::specs::Settle::stable_entries))]
+fn stable_entries_answer(
+    log: Log,
+    settled: &[u64],
+    pending: &[u64],
+    i: u64,
+    t: u64,
+) -> Result<Log, Refusal>
     ensures { result ≡ stable_entries log settled.now pending.now i t }
 {
-    if !state_ok(log, settled, pending) {
-        return Changed::Refused(BROKEN_STATE);
-    }
-    let last = last_of(log, settled, pending);
+    let held = log.held(settled, pending)?;
+    let last = held.last();
     if words::room(settled) < last - log.start.0 {
-        return Changed::Refused(NO_ROOM);
+        return Err(Refusal::NoRoom);
     }
     if log.count == 0 {
-        return Changed::Refused(NOT_PENDING);
+        return Err(Refusal::NotPending);
     }
     if i != last {
-        return Changed::Refused(NOT_PENDING);
+        return Err(Refusal::NotPending);
     }
-    if term_at(log, settled, pending, i) != t {
-        return Changed::Refused(NOT_PENDING);
+    if held.term(i) != t {
+        return Err(Refusal::NotPending);
     }
-    let mut after = log;
-    let next = last + 1;
-    after.offset.0 = next;
-    after.count = 0;
-    Changed::Now(after)
+    Ok(Log {
+        offset: Index(last + 1),
+        count: 0,
+        ..log
+    })
 }

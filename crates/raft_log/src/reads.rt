@@ -1,96 +1,89 @@
 // What the reading calls answer of a log in good state, and the parts of the stores.
-ghost use Rattle.std.specs.Prelude.{◌≡◌};
-ghost use Rattle.raft_log.specs.State.{Good};
+ghost use Rattle.std.specs.Prelude.{◌≡◌, Ok};
 ghost use Rattle.raft_log.specs.Look.{at_most, last_down, by_term_in};
 ghost use Rattle.raft_log.specs.Slice.{in_store, slice_in, has_next, store_part};
 
-use crate::state::{larger, last_of, term_at};
+use crate::held::Held;
 use crate::words::room;
-use crate::{Bounds, ByTerm, Log};
-use units::refusal::{BELOW_FIRST, OUT_OF_RANGE};
-use units::{Index, Term, smaller};
+use crate::{Bounds, Log};
+use units::refusal::Refusal;
+use units::{Index, Term};
 
-// The largest index at most i whose term is at most t.
-fn last_below(log: Log, settled: &[u64], pending: &[u64], i: u64, t: u64) -> u64
-    requires { Good log settled.now pending.now }
-    ensures { result ≡ last_down (at_most log settled.now pending.now t) i }
-{
-    let mut j = i;
-    while j > 0 {
-        if term_at(log, settled, pending, j) <= t {
-            return j;
+impl Held<'_> {
+    // The largest index at most i whose term is at most t.
+    fn last_below(self, i: u64, t: u64) -> u64
+        ensures { result ≡ last_down (at_most self.entry.log self.entry.settled.now self.entry.pending.now t) i }
+    {
+        for j in (1..=i).rev() {
+            if self.term(j) <= t {
+                return j;
+            }
         }
-        j -= 1;
+        0
     }
-    0
-}
 
-#[tactic(auto, unfolding(crate::specs::Look::by_term_in))]
-pub fn by_term(log: Log, settled: &[u64], pending: &[u64], i: u64, t: u64) -> ByTerm
-    requires { Good log settled.now pending.now }
-    ensures { result ≡ by_term_in log settled.now pending.now i t }
-{
-    if last_of(log, settled, pending) < i {
-        return ByTerm::Beyond(Index(i));
+    // That index and its term, or i with no term where i is beyond the last.
+    #[tactic(auto, unfolding(crate::specs::Look::by_term_in))]
+    pub fn by_term(self, i: u64, t: u64) -> (Index, Option<Term>)
+        ensures { Ok result ≡ by_term_in self.entry.log self.entry.settled.now self.entry.pending.now i t }
+    {
+        if self.last() < i {
+            return (Index(i), None);
+        }
+        let j = self.last_below(i, t);
+        (Index(j), Some(Term(self.term(j))))
     }
-    let j = last_below(log, settled, pending, i, t);
-    let found = term_at(log, settled, pending, j);
-    ByTerm::Found {
-        index: Index(j),
-        term: Term(found),
+
+    // The bounds of the records from low up to high, or refusals 8 and 9.
+    #[tactic(auto, unfolding(crate::specs::Slice::slice_in))]
+    pub fn bounds(self, low: u64, high: u64) -> Result<Bounds, Refusal>
+        ensures { result ≡ slice_in self.entry.log low high }
+    {
+        if low > high {
+            return Err(Refusal::OutOfRange);
+        }
+        if low <= self.log.start.0 {
+            return Err(Refusal::BelowFirst);
+        }
+        if high > self.last() + 1 {
+            return Err(Refusal::OutOfRange);
+        }
+        Ok(in_store(self.log, low, high))
+    }
+
+    // Whether records after s are committed and persisted.
+    #[tactic(auto, unfolding(crate::specs::Slice::has_next))]
+    pub fn has_next(self, s: u64) -> bool
+        ensures { result ≡ has_next self.entry.log s }
+    {
+        let log = self.log;
+        let end = log.committed.0.min(log.persisted.0);
+        if s == u64::MAX {
+            return false;
+        }
+        (s + 1).max(log.start.0 + 1) < end + 1
     }
 }
 
 // A run from low, ending at high or at the store boundary.
 #[tactic(auto, unfolding(crate::specs::Slice::in_store))]
 pub fn in_store(log: Log, low: u64, high: u64) -> Bounds
-    ensures { result ≡ in_store log low high }
+    ensures { Ok result ≡ in_store log low high }
 {
     let offset = log.offset.0;
     if low == high {
         return Bounds::Empty;
     }
     if low < offset {
-        let end = smaller(high, offset);
         return Bounds::Settled {
             low: Index(low),
-            high: Index(end),
+            high: Index(high.min(offset)),
         };
     }
     Bounds::Pending {
         low: Index(low),
         high: Index(high),
     }
-}
-
-#[tactic(auto, unfolding(crate::specs::Slice::slice_in))]
-pub fn slice_in(log: Log, settled: &[u64], pending: &[u64], low: u64, high: u64) -> Bounds
-    requires { Good log settled.now pending.now }
-    ensures { result ≡ slice_in log low high }
-{
-    if low > high {
-        return Bounds::Refused(OUT_OF_RANGE);
-    }
-    if low <= log.start.0 {
-        return Bounds::Refused(BELOW_FIRST);
-    }
-    if high > last_of(log, settled, pending) + 1 {
-        return Bounds::Refused(OUT_OF_RANGE);
-    }
-    in_store(log, low, high)
-}
-
-// Whether records after s are committed and persisted.
-#[tactic(auto, unfolding(crate::specs::Slice::has_next))]
-pub fn has_next(log: Log, settled: &[u64], pending: &[u64], s: u64) -> bool
-    requires { Good log settled.now pending.now }
-    ensures { result ≡ has_next log s }
-{
-    let end = smaller(log.committed.0, log.persisted.0);
-    if s == u64::MAX {
-        return false;
-    }
-    larger(s + 1, log.start.0 + 1) < end + 1
 }
 
 // Words of a store: those of the records from low up to high, where the store's first record is at index `first`; none where it has not so many.

@@ -64,10 +64,8 @@ pub fn put_run(store: &mut [u64], at: u64, run: &[u64], k: u64, n: u64)
     requires in_run { k + n ≤ run_count run.now }
     ensures { store.new ≡ put_run store.old at run.now k n }
 {
-    let mut i = 0;
-    while i < n {
+    for i in 0..n {
         put_record(store, at + i, run, k + i);
-        i += 1;
     }
 }
 
@@ -77,12 +75,10 @@ pub fn same_terms(store: &[u64], at: u64, run: &[u64], k: u64, n: u64) -> u64
     requires in_run { k + n ≤ run_count run.now }
     ensures { result ≡ first_from (other_term store.now at run.now k) 0 n }
 {
-    let mut i = 0;
-    while i < n {
+    for i in 0..n {
         if run_term(run, k + i) != store_term(store, at + i) {
             return i;
         }
-        i += 1;
     }
     n
 }

@@ -6,11 +6,9 @@ use mathlib.Core.Logic.{⊎_elim}
 use native.Mathlib.Omega.{arith}
 use lib.ListN.{length, get_or, drop, length-drop}
 use lib.Seq.{get_or-drop, ext_get_or}
-use Rattle.units.specs.declared.Index.{Index}
 use Rattle.rules.specs.Log.{Entry, entry, nothing, Log as Abstract, whole_list, last, Agree}
 use Rattle.rules.specs.Receiver.{with_entries}
-use Rattle.raft_log.specs.declared.Log.{Log}
-use Rattle.raft_log.specs.declared.Appended.TheVariants as appended
+use Rattle.raft_log.specs.declared.Appended.{Appended}
 use Rattle.log_laws.proofs.Views.{entry_after}
 use Rattle.two_ends.specs.Follower.{Follower, held, committed, Message, last_index_of, Receiver, engine, HasRoom, Between, does, Event, arrives, between, step, follow}
 use Rattle.two_ends.specs.Leader.{cut, CutFrom}
@@ -20,6 +18,7 @@ use Rattle.two_ends.proofs.Cuts.{cut_term, cut_last, sent_cut}
 use Rattle.two_ends.proofs.Tests.{passed_done, after_message_lem, taken_cut}
 use Rattle.two_ends.proofs.Taking.{Standing, premises_standing, named, Took, took, accepted_if, then_agree, message_standing, message_keeps}
 use Rattle.two_ends.proofs.Quiet.{between_alike, between_standing}
+use Rattle.std.specs.Prelude.{Ok}
 
 -- The follower after events, and then more of them.
 follow_on : (rcv : Receiver) (f : Follower) (es fs : List Event) → follow rcv f (es ++ fs) ≡ follow rcv (follow rcv f es) fs
@@ -53,14 +52,14 @@ module _ (xs : List Entry) (f : Follower) (p : Premises xs f) (commit : ℕ) whe
     after = (engine g m).follower
 
     -- ---- a message of the leader's that is taken in
-    module _ (sent : CutFrom xs m) (low : m.commit ≤ commit) (c k : Index) (a : Log) (e : (engine g m).answer ≡ appended.Done c k a) where
+    module _ (sent : CutFrom xs m) (low : m.commit ≤ commit) (a : Appended) (e : (engine g m).answer ≡ Ok a) where
       t : Took g m after
-      t = took g m c k a e
+      t = took g m a e
 
       -- after it, for any index: it is enough that up to there the records are the leader's, and committed as the leader has
       counted : (i : ℕ) → Agree (held after) (whole_list xs) i → max (committed f) (min commit i) ≤ committed after → Now after i
       counted i agrees floor =
-          let stands = message_standing xs p.leader_terms p.leader_limit g now.0 m sent c k a e in
+          let stands = message_standing xs p.leader_terms p.leader_limit g now.0 m sent a e in
           let same = t.got.same_start in
           let shorter : last (held f) ≤ length xs → last (held after) ≤ length xs =
           λ h. ⊎_elim (λ d. omega (arith, d.1, named m, cut_last sent, sent.inside)) (λ d. omega (arith, d.1.1, now.1.shorter h)) t.got.end in
@@ -68,11 +67,11 @@ module _ (xs : List Entry) (f : Follower) (p : Premises xs f) (commit : ℕ) whe
           (stands, record { starts = (same.0 ∙ now.1.starts.0, same.1 ∙ now.1.starts.1); agrees = agrees; shorter = shorter; floor = floor; ceiling = ceiling })
 
       kept : Now after idx
-      kept = counted idx ((message_keeps xs p.leader_terms p.leader_limit g now.0 m sent c k a e).keeps idx now.1.agrees) (omega (arith, now.1.floor, t.committed_is))
+      kept = counted idx ((message_keeps xs p.leader_terms p.leader_limit g now.0 m sent a e).keeps idx now.1.agrees) (omega (arith, now.1.floor, t.committed_is))
 
     -- ---- any message that may come
     message_now : Possible xs m → m.commit ≤ commit → Now after idx
-    message_now possible low = after_message_lem g m (λ h. Now h idx) now (λ c k a e. kept (taken_cut g m possible c k a e) low c k a e)
+    message_now possible low = after_message_lem g m (λ h. Now h idx) now (λ a e. kept (taken_cut g m possible a e) low a e)
 
   -- ---- the next message: the follower holds the leader's record before it
   next_message : (g : Follower) (m : Message) → Now g m.idx → CutFrom xs m → m.commit ≡ commit → HasRoom g m → Accepts (engine g m) (last_index_of m) × Now (engine g m).follower (last_index_of m)
@@ -80,9 +79,9 @@ module _ (xs : List Entry) (f : Follower) (p : Premises xs f) (commit : ℕ) whe
       let here = now.1.agrees in
       let previous : HoldsPrevious g m = (here.here, (here.same m.idx here.here.0 (omega arith)).terms ∙ sym (cut_term sent)) in
       let e = passed_done g m (accepted_if xs p.leader_terms p.leader_limit g now.0 m sent previous room) in
-      let agrees = then_agree xs p.leader_terms p.leader_limit g now.0 m sent _ _ _ e in
+      let agrees = then_agree xs p.leader_terms p.leader_limit g now.0 m sent _ e in
       let low : m.commit ≤ commit = omega arith in
-      ((_, _, _, e, refl), counted g m.idx now m sent low _ _ _ e (last_index_of m) agrees (omega (arith, now.1.floor, (took g m _ _ _ e).committed_is)))
+      ((_, e, refl), counted g m.idx now m sent low _ e (last_index_of m) agrees (omega (arith, now.1.floor, (took g m _ e).committed_is)))
 
   -- ---- what else happens
   between_now : (g : Follower) (idx : ℕ) → Now g idx → (b : Between) → Now (does g b) idx

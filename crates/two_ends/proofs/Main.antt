@@ -4,25 +4,26 @@ use mathlib.Core.Path.{◌≡◌, refl, sym, ap, subst, ◌∙◌}
 use mathlib.Core.Bool.{false}
 use mathlib.Core.List.{List, [], ◌∷◌}
 use mathlib.Core.Logic.{inl, ⊎_elim}
-use native.Mathlib.Omega.{arith}
 use lib.ListN.{length}
-use Rattle.units.specs.Units.{index_limit, index_of}
-use Rattle.units.specs.Refusals.{misnumbered_run, zero_term, cuts_committed}
-use Rattle.units.specs.declared.Index.{Index}
+use Rattle.units.specs.Units.{index_limit}
+use Rattle.units.specs.declared.refusal.Refusal.TheVariants as refusal
 use Rattle.rules.specs.Log.{Entry, whole_list, Agree}
-use Rattle.raft_log.specs.declared.Appended.TheVariants as appended
+use Rattle.raft_log.specs.declared.Appended.{Appended}
 use Rattle.raft_log.specs.State.{broken}
 use Rattle.raft_log.proofs.States.{not_both, good_whole}
-use Rattle.raft_log.proofs.Appending.{other_refusal}
+use Rattle.units.proofs.Never.{never}
 use Rattle.log_laws.specs.Keep.{NonzeroTerms}
-use Rattle.two_ends.specs.Follower.{Follower, held, Message, last_index_of, Receiver, engine, HasRoom, Between, does, Event, arrives, between, follow}
+use Rattle.two_ends.specs.Follower.{Follower, held, Message, alike, last_index_of, Receiver, engine, HasRoom, Between, does, Event, arrives, between, follow}
 use Rattle.two_ends.specs.Leader.{CutFrom}
 use Rattle.two_ends.specs.TwoEnds.{Possible, Trace, HoldsPrevious, Accepts, OfMessage, Keeps, TwoEnds, Theorem, NeverDiffer}
 use Rattle.two_ends.proofs.Agreeing.{same_third}
 use Rattle.two_ends.proofs.Cuts.{cut_well_formed}
-use Rattle.two_ends.proofs.Tests.{done_passed, passed_done, six_cuts, one_broken, malformed_refused, refused_unchanged, after_message_lem, taken_cut}
+use Rattle.raft_log.specs.Words.{run_count}
+use Rattle.raft_log.proofs.Appending.{said}
+use Rattle.two_ends.proofs.Tests.{after, done_passed, passed_done, six_cuts, one_broken, malformed_refused, refused_unchanged, after_message_lem, taken_cut}
 use Rattle.two_ends.proofs.Taking.{Standing, premises_standing, keeps_refl, keeps_trans, accepted_if, tests_hold, spared, held_before, then_agree, message_standing, message_keeps}
 use Rattle.two_ends.proofs.Quiet.{quiet_keeps, between_alike, between_standing}
+use Rattle.std.specs.Prelude.{Err}
 
 module _ (xs : List Entry) (leader_terms : NonzeroTerms (whole_list xs)) (leader_limit : length xs ≤ index_limit) where
   -- The follower stands as it did, and has kept what it had.
@@ -36,35 +37,31 @@ module _ (xs : List Entry) (leader_terms : NonzeroTerms (whole_list xs)) (leader
   module _ (f : Follower) (st : Standing xs f) (m : Message) where
     message_stays : Possible xs m → Stays f (engine f m).follower
     message_stays possible =
-        after_message_lem f m (Stays f) (st, keeps_refl xs f) (λ c k a e.
-        let cut = taken_cut f m possible c k a e in
-        (message_standing xs leader_terms leader_limit f st m cut c k a e, message_keeps xs leader_terms leader_limit f st m cut c k a e))
+        after_message_lem f m (Stays f) (st, keeps_refl xs f) (λ a e.
+        let cut = taken_cut f m possible a e in
+        (message_standing xs leader_terms leader_limit f st m cut a e, message_keeps xs leader_terms leader_limit f st m cut a e))
 
     -- accepted exactly when the previous record is held with that term, and there is room
     module _ (cut : CutFrom xs m) where
       accepts_if : HoldsPrevious f m × HasRoom f m → (k : ℕ) × Accepts (engine f m) k
-      accepts_if h = (last_index_of m, (_, _, _, passed_done f m (accepted_if xs leader_terms leader_limit f st m cut h.0 h.1), refl))
+      accepts_if h = (last_index_of m, (_, passed_done f m (accepted_if xs leader_terms leader_limit f st m cut h.0 h.1), refl))
 
       only_if : (k : ℕ) × Accepts (engine f m) k → HoldsPrevious f m × HasRoom f m
-      only_if (k, (c, n, a, e, q)) = (held_before xs leader_terms leader_limit f st m cut c n a e, (done_passed f m c n a e).0.room)
+      only_if (k, (a, e, q)) = (held_before xs leader_terms leader_limit f st m cut a e, (done_passed f m a e).0.room)
 
       named : (k : ℕ) → Accepts (engine f m) k → k ≡ last_index_of m
-      named k (c, n, a, e, q) =
-          let same = (done_passed f m c n a e).1 in
-          let index : index_of (last_index_of m) ≡ n = cc same in
-          sym q ∙ ap (λ (i : Index). i.0) (sym index)
+      named k (a, e, q) =
+          let (p, same) = done_passed f m a e in
+          let index : said m.idx (run_count m.run) (alike f m) (after f m) ≡ a = cc same in
+          sym q ∙ ap (λ (x : Appended). x.last.0) (sym index)
 
-      no_six : (engine f m).answer ≡ appended.Refused cuts_committed → ⊥
+      no_six : (engine f m).answer ≡ Err refusal.CutsCommitted → ⊥
       no_six e =
           let t = six_cuts f m e in
           not_both t.2 (spared xs leader_terms leader_limit f st m cut (tests_hold xs leader_terms leader_limit f st m cut t.0 t.1))
 
-    -- a malformed message gets another number
-    other_number : (n : ℕ) → (n ≡ cuts_committed → ⊥) → (engine f m).answer ≡ appended.Refused n → (engine f m).answer ≡ appended.Refused cuts_committed → ⊥
-    other_number n unlike e h = other_refusal unlike (sym e ∙ h)
-
-    never_six : Possible xs m → (engine f m).answer ≡ appended.Refused cuts_committed → ⊥
-    never_six = ⊎_elim no_six (λ bad. ⊎_elim (other_number misnumbered_run (λ q. omega arith)) (other_number zero_term (λ q. omega arith)) (malformed_refused f m (whole f st) bad))
+    never_six : Possible xs m → (engine f m).answer ≡ Err refusal.CutsCommitted → ⊥
+    never_six possible six = ⊎_elim (λ cut. no_six cut six) (λ bad. ⊎_elim (λ two. never cc) (λ three. never cc) (malformed_refused f m (whole f st) bad)) possible
 
     of_message : OfMessage engine xs f m
     of_message = record {
@@ -111,12 +108,12 @@ module _ (xs : List Entry) (leader_terms : NonzeroTerms (whole_list xs)) (leader
 
       holds : (es : List Event) → Trace xs es → (m : Message) → CutFrom xs m → (k : ℕ) → Accepts (engine (follow engine f es) m) k
           → (fs : List Event) → Trace xs fs → Agree (held (follow engine (engine (follow engine f es) m).follower fs)) (whole_list xs) k
-      holds es t m cut k (c, n, a, e, q) fs u =
+      holds es t m cut k (a, e, q) fs u =
           let g = follow engine f es in
-          let then = then_agree xs leader_terms leader_limit g (now es t) m cut c n a e in
+          let then = then_agree xs leader_terms leader_limit g (now es t) m cut a e in
           let stays = message_stays g (now es t) m (inl cut) in
           let kept = (follow_stays (engine g m).follower stays.0 fs u).1.keeps (last_index_of m) then in
-          subst (Agree (held (follow engine (engine g m).follower fs)) (whole_list xs)) (sym (named g (now es t) m cut k (c, n, a, e, q))) kept
+          subst (Agree (held (follow engine (engine g m).follower fs)) (whole_list xs)) (sym (named g (now es t) m cut k (a, e, q))) kept
 
 -- THE THEOREM
 pub two_ends : Theorem engine

@@ -7,11 +7,10 @@ use native.Mathlib.Omega.{arith}
 use lib.Dec.{lit<, lit≤}
 use lib.ListN.{take}
 use Rattle.units.specs.Units.{index_of}
-use Rattle.units.specs.Refusals.{outside_log}
+use Rattle.units.specs.declared.refusal.Refusal.TheVariants as refusal
 use Rattle.units.specs.Lists.{listed}
 use Rattle.units.proofs.Numbers.{below_or_not}
 use Rattle.rules.specs.Log.{Log, whole_list, last, entry_at, term_of, Same, Matching, Agree}
-use Rattle.raft_log.specs.declared.Appended.TheVariants.{Done, Refused}
 use Rattle.raft_log.specs.Words.{put_run, first_from}
 use Rattle.raft_log.specs.State.{state_ok, term_at}
 use Rattle.raft_log.specs.Run.{numbered, terms_set}
@@ -28,6 +27,7 @@ use Rattle.two_ends.specs.TwoEnds.{Premises}
 use Rattle.two_ends.specs.Sanity.{leader, follower, late, third, third_and_fourth, heartbeat, from_zero, corrected}
 use Rattle.two_ends.proofs.Agreeing.{agree_down}
 use Rattle.two_ends.proofs.Cuts.{sent_cut}
+use Rattle.std.specs.Prelude.{Ok, Err}
 
 -- What the concrete facts compute through, all of it: to name this on an `unfolding` line is to open each.
 unfoldable pub concrete : Unit {0}
@@ -137,7 +137,7 @@ unfolding concrete
 from_zero_cut = sent_cut leader 0 0 0 (lit≤ tt)
 
 -- The engine reports the conflict at 3, names 3, and has the leader's third record in place of the other.
-pub third_received : engine follower third ≡ record { answer = Done (index_of 3) (index_of 3) corrected.log; follower = corrected }
+pub third_received : engine follower third ≡ record { answer = Ok (record { conflict = index_of 3; last = index_of 3; log = corrected.log }); follower = corrected }
 unfolding concrete
 third_received = refl
 
@@ -146,11 +146,11 @@ unfolding concrete
 corrected_holds = refl
 
 -- Repeated, it is accepted without a conflict, and changes nothing.
-pub third_repeated : engine corrected third ≡ record { answer = Done (index_of 0) (index_of 3) corrected.log; follower = corrected }
+pub third_repeated : engine corrected third ≡ record { answer = Ok (record { conflict = index_of 0; last = index_of 3; log = corrected.log }); follower = corrected }
 unfolding concrete
 third_repeated = refl
 
 -- The follower that starts later does not hold (0, 0).
-pub from_zero_refused : engine late from_zero ≡ record { answer = Refused outside_log; follower = late }
+pub from_zero_refused : engine late from_zero ≡ record { answer = Err refusal.OutsideLog; follower = late }
 unfolding concrete
 from_zero_refused = refl

@@ -8,7 +8,6 @@ use native.Mathlib.Omega.{arith}
 use borrow.Author.Tests.{ltb-true, leb-true}
 use lib.ListN.{length, get_or}
 use Rattle.units.specs.Units.{index_limit}
-use Rattle.units.specs.declared.Index.{Index}
 use Rattle.units.proofs.Cond.{taken as first-end}
 use Rattle.units.proofs.Never.{never}
 use Rattle.units.proofs.Numbers.{below_or_not}
@@ -16,9 +15,7 @@ use Rattle.units.proofs.Lists.{length-listed, at_listed}
 use Rattle.rules.specs.Log.{Entry, nothing, Log as Abstract, whole_list, last, entry_at, term_of, Matching, Agree}
 use Rattle.rules.specs.Receiver.{success, contains, receiver}
 use Rattle.rules.proofs.Receiver.{contains_holds, raised}
-use Rattle.raft_log.specs.declared.Log.{Log}
 use Rattle.raft_log.specs.declared.Appended.{Appended}
-use Rattle.raft_log.specs.declared.Appended.TheVariants as appended
 use Rattle.raft_log.specs.Words.{run_count, run_term}
 use Rattle.raft_log.specs.State.{Good, term_at}
 use Rattle.raft_log.specs.Append.{differs, cuts, outside, mismatched, match_run, maybe_append}
@@ -36,6 +33,8 @@ use Rattle.two_ends.proofs.Agreeing.{agree_down, new_agree, agree_below, keep_ag
 use Rattle.two_ends.proofs.Cuts.{records_length, records_at, cut_term, cut_count, cut_entries, cut_well_formed}
 use Rattle.two_ends.proofs.Tests.{AllPassed}
 use Rattle.two_ends.proofs.Carried.{Sound, received_sound, made_sound}
+use Rattle.std.specs.Prelude.{Ok}
+use Rattle.units.specs.Refusals.{Answer}
 
 -- What stands between the two ends at every moment.
 pub record Standing (xs : List Entry) (f : Follower) : Type 0 where
@@ -77,10 +76,10 @@ module _ (f : Follower) (m : Message) where
     pub got : Received (held f) m.idx es (held g)
     pub committed_is : committed g ≡ max (committed f) (min m.commit (last_index_of m))
 
-  took_done : (c k : Index) (a : Log) → answer_to f m ≡ appended.Done c k a → Took (reception_of f m (appended.Done c k a)).follower
+  took_done : (a : Appended) → answer_to f m ≡ Ok a → Took (reception_of f m (Ok a)).follower
   unfolding receiver maybe_append match_run
-  took_done c k a e =
-      let t = taken f.log f.settled f.pending m.idx m.term m.commit m.run c k a e in
+  took_done a e =
+      let t = taken f.log f.settled f.pending m.idx m.term m.commit m.run a e in
       let s = first-end (contains (held f) m.idx m.term) (λ h. never cc) t.steps in
       let is = success_is s.1 in
       record {
@@ -91,9 +90,9 @@ module _ (f : Follower) (m : Message) where
             ∙ raised (committed f) m.commit _ ∙ ap (λ (x : ℕ). max (committed f) (min m.commit x)) (sym (named m));
       }
 
-  pub took : (c k : Index) (a : Log) → (engine f m).answer ≡ appended.Done c k a → Took (engine f m).follower
+  pub took : (a : Appended) → (engine f m).answer ≡ Ok a → Took (engine f m).follower
   unfolding engine
-  took c k a e = subst (λ (x : Appended). Took (reception_of f m x).follower) (sym e) (took_done c k a e)
+  took a e = subst (λ (x : Answer Appended). Took (reception_of f m x).follower) (sym e) (took_done a e)
 
 -- ---- a message of the leader's
 module _ (xs : List Entry) (leader_terms : NonzeroTerms (whole_list xs)) (leader_limit : length xs ≤ index_limit) (f : Follower) (st : Standing xs f) (m : Message) (cut : CutFrom xs m) where
@@ -139,12 +138,12 @@ module _ (xs : List Entry) (leader_terms : NonzeroTerms (whole_list xs)) (leader
       let b = neither (outside f.log m.idx m.term) (mismatched f.log f.settled f.pending m.idx m.term) (sym (step_2_is f.log f.settled f.pending good m.idx m.term) ∙ (contains_holds (held f) m.idx m.term).1 h) in
       record { whole = good_whole f.log f.settled f.pending good; formed = cut_well_formed leader_terms leader_limit cut; inside = b.0; matches = b.1; spares = spared h; room = room }
 
-  module _ (c k : Index) (a : Log) (e : (engine f m).answer ≡ appended.Done c k a) where
+  module _ (a : Appended) (e : (engine f m).answer ≡ Ok a) where
     abbrev after : Follower
     after = (engine f m).follower
 
     t : Took f m after
-    t = took f m c k a e
+    t = took f m a e
 
     pub held_before : HoldsPrevious f m
     held_before = (contains_holds (held f) m.idx m.term).0 t.contained

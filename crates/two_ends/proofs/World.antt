@@ -11,7 +11,7 @@ use Rattle.two_ends.specs.TwoEnds.{Possible, Trace, Accepts, OfMessage, TwoEnds,
 use Rattle.two_ends.specs.World.{World, Happening, grows, sends, meets, next, May, history, History, AllCut, InTime, TheoremInTime, Happens, EveryTraceHappens}
 use Rattle.two_ends.proofs.Cuts.{cut_grown, sent_cut}
 use Rattle.two_ends.proofs.Main.{two_ends}
-use Rattle.raft_log.proofs.Appending.{no_done}
+use Rattle.units.proofs.Never.{never}
 
 -- ---- a list that only grows
 
@@ -126,7 +126,7 @@ module _ (rcv : Receiver) where
 
       -- what is accepted is no malformed message
       accepted_cut : (m : Message) (k : ℕ) → Accepts (rcv now.follower m) k → Possible xs m → CutFrom xs m
-      accepted_cut m k (c, n, l, e, q) = ⊎_elim (λ cut. cut) (λ bad. absurd (⊎_elim (λ r. no_done (sym r ∙ e)) (λ r. no_done (sym r ∙ e)) ((now_message m).malformed bad)))
+      accepted_cut m k (a, e, q) = ⊎_elim (λ cut. cut) (λ bad. ⊎_elim (λ r. never cc) (λ r. never cc) ((now_message m).malformed bad))
 
       then_holds : (m : Message) (rest : List Happening) → gs ≡ meets (arrives m) ∷ rest → (k : ℕ) → Accepts (rcv now.follower m) k → Agree (held later.follower) (whole_list xs) k
       unfolding events follow

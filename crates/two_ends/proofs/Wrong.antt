@@ -5,7 +5,7 @@ use mathlib.Core.Logic.{inl}
 use native.Mathlib.Omega.{arith}
 use lib.Dec.{lit≤}
 use Rattle.raft_log.proofs.States.{not_both}
-use Rattle.raft_log.proofs.Appending.{no_done}
+use Rattle.units.proofs.Never.{never}
 use Rattle.two_ends.specs.Follower.{arrives}
 use Rattle.two_ends.specs.TwoEnds.{Theorem}
 use Rattle.two_ends.specs.Sanity.{leader, follower, late, third, third_and_fourth, heartbeat, from_zero, refuses_all, stores_nothing, cuts_always, commits_blindly, cuts_behind_match, zero_is_absent, lowers_persisted, persisted_stays, no_refusal_4}
@@ -15,14 +15,14 @@ use Rattle.two_ends.proofs.Sanity.{concrete, follower_premises, late_premises, t
 pub refuses_all_fails : Theorem refuses_all → ⊥
 unfolding Theorem concrete
 refuses_all_fails th =
-    let (k, (c, n, a, e, q)) = (((th leader follower follower_premises).of_message [] tt third).accepts third_cut).1 (((lit≤ tt, lit≤ tt), refl), refl) in
-    no_done e
+    let (k, (a, e, q)) = (((th leader follower follower_premises).of_message [] tt third).accepts third_cut).1 (((lit≤ tt, lit≤ tt), refl), refl) in
+    never cc
 
 -- holds: after the message the third record is still the other leader's.
 pub stores_nothing_fails : Theorem stores_nothing → ⊥
 unfolding Theorem concrete
 stores_nothing_fails th =
-    let g = (th leader follower follower_premises).holds [] tt third third_cut 3 (_, _, _, refl, refl) [] tt in
+    let g = (th leader follower follower_premises).holds [] tt third third_cut 3 (_, refl, refl) [] tt in
     let t = (g.same 3 (lit≤ tt) (lit≤ tt)).terms in
     omega arith
 
@@ -30,7 +30,7 @@ stores_nothing_fails th =
 pub cuts_always_fails : Theorem cuts_always → ⊥
 unfolding Theorem concrete
 cuts_always_fails th =
-    let g = (th leader follower follower_premises).holds [] tt third_and_fourth third_and_fourth_cut 4 (_, _, _, refl, refl) (arrives third ∷ []) (inl third_cut, tt) in
+    let g = (th leader follower follower_premises).holds [] tt third_and_fourth third_and_fourth_cut 4 (_, refl, refl) (arrives third ∷ []) (inl third_cut, tt) in
     let h = g.here.1 in
     omega arith
 
@@ -44,7 +44,7 @@ commits_blindly_fails th =
 pub cuts_behind_match_fails : Theorem cuts_behind_match → ⊥
 unfolding Theorem concrete
 cuts_behind_match_fails th =
-    let g = (th leader follower follower_premises).holds [] tt third_and_fourth third_and_fourth_cut 4 (_, _, _, refl, refl) (arrives third ∷ []) (inl third_cut, tt) in
+    let g = (th leader follower follower_premises).holds [] tt third_and_fourth third_and_fourth_cut 4 (_, refl, refl) (arrives third ∷ []) (inl third_cut, tt) in
     let h = g.here.1 in
     omega arith
 
@@ -52,8 +52,8 @@ cuts_behind_match_fails th =
 pub zero_is_absent_fails : Theorem zero_is_absent → ⊥
 unfolding Theorem concrete
 zero_is_absent_fails th =
-    let (k, (c, n, a, e, q)) = (((th leader follower follower_premises).of_message [] tt from_zero).accepts from_zero_cut).1 (((lit≤ tt, lit≤ tt), refl), refl) in
-    no_done e
+    let (k, (a, e, q)) = (((th leader follower follower_premises).of_message [] tt from_zero).accepts from_zero_cut).1 (((lit≤ tt, lit≤ tt), refl), refl) in
+    never cc
 
 -- state-rules: persisted is then below applied.
 pub lowers_persisted_fails : Theorem lowers_persisted → ⊥
@@ -70,6 +70,6 @@ persisted_stays_fails th = not_both refl ((th leader follower follower_premises)
 pub no_refusal_4_fails : Theorem no_refusal_4 → ⊥
 unfolding Theorem concrete
 no_refusal_4_fails th =
-    let h = (((th leader late late_premises).of_message [] tt from_zero).accepts from_zero_cut).0 (0, (_, _, _, refl, refl)) in
+    let h = (((th leader late late_premises).of_message [] tt from_zero).accepts from_zero_cut).0 (0, (_, refl, refl)) in
     let low = h.0.0.0 in
     omega arith

@@ -1,15 +1,10 @@
 -- The follower: a log of crate `raft_log` with the words of its two stores, and what its calls make of them. A reader must know: every function used here is one that a contract of `raft_log` cites, so what is proved of these steps is proved of the code.
-use Rattle.std.specs.Prelude.{ℕ, ◌+◌, ◌≡◌, false, List, [], ◌∷◌}
+use Rattle.std.specs.Prelude.{ℕ, ◌+◌, ◌≡◌, false, List, [], ◌∷◌, Ok, Err, Some, None, Option}
+use Rattle.units.specs.Refusals.{Answer}
+use Rattle.units.specs.declared.Index.{Index}
 use Rattle.rules.specs.Log.{Log as Abstract}
 use Rattle.raft_log.specs.declared.Log.{Log}
 use Rattle.raft_log.specs.declared.Appended.{Appended}
-use Rattle.raft_log.specs.declared.Appended.TheVariants as appended
-use Rattle.raft_log.specs.declared.Extended.{Extended}
-use Rattle.raft_log.specs.declared.Extended.TheVariants as extended
-use Rattle.raft_log.specs.declared.Changed.{Changed}
-use Rattle.raft_log.specs.declared.Changed.TheVariants as changed
-use Rattle.raft_log.specs.declared.Decided.{Decided}
-use Rattle.raft_log.specs.declared.Decided.TheVariants as decided
 use Rattle.raft_log.specs.Words.{run_count}
 use Rattle.raft_log.specs.Run.{misnumbered, zero_term_in}
 use Rattle.raft_log.specs.Append.{after_message, overfull, maybe_append, maybe_append_store, alike_before}
@@ -34,25 +29,25 @@ abbrev pub committed : Follower → ℕ
 committed f = f.log.committed.0
 
 -- The state after an answer of `maybe_append`: the one it carries; where it carries none, nothing changed. 01: "Every refusal returns its number alone and changes nothing."
-abbrev pub log_appended : Appended → Log → Log
-log_appended (appended.Done conflict last after) before = after
-log_appended (appended.Refused number) before = before
+abbrev pub log_appended : Answer Appended → Log → Log
+log_appended (Ok said) before = said.log
+log_appended (Err number) before = before
 
 -- The state after an answer of `append`, likewise.
-abbrev pub log_extended : Extended → Log → Log
-log_extended (extended.Last last after) before = after
-log_extended (extended.Refused number) before = before
+abbrev pub log_extended : Answer (Index × Log) → Log → Log
+log_extended (Ok (last, after)) before = after
+log_extended (Err number) before = before
 
 -- The state after an answer of `commit_to`, `applied_to` or `stable_entries`, likewise.
-abbrev pub log_changed : Changed → Log → Log
-log_changed (changed.Now after) before = after
-log_changed (changed.Refused number) before = before
+abbrev pub log_changed : Answer Log → Log → Log
+log_changed (Ok after) before = after
+log_changed (Err number) before = before
 
 -- The state after an answer of `maybe_commit` or `maybe_persist`, likewise; a no carries none either.
-abbrev pub log_decided : Decided → Log → Log
-log_decided (decided.Yes after) before = after
-log_decided decided.No before = before
-log_decided (decided.Refused number) before = before
+abbrev pub log_decided : Answer (Option Log) → Log → Log
+log_decided (Ok (Some after)) before = after
+log_decided (Ok None) before = before
+log_decided (Err number) before = before
 
 -- ---- a message arrives
 
@@ -73,7 +68,7 @@ WellFormed m = (misnumbered m.run m.idx ≡ false) × (zero_term_in m.run ≡ fa
 
 -- What comes of a message: the answer, which "names the message's last index", and what "the follower then holds".
 pub record Reception : Type 0 where
-  pub answer : Appended
+  pub answer : Answer Appended
   pub follower : Follower
 
 -- A way to take a message in. The promise is stated of any, and proved of the engine's: "An engine that turns everything down .. has to be caught by these promises."
@@ -81,11 +76,11 @@ abbrev pub Receiver : Type 0
 Receiver = Follower → Message → Reception
 
 -- The answer that `maybe_append` promises: "conflict and idx + count", or the refusal.
-abbrev pub answer_to : Follower → Message → Appended
+abbrev pub answer_to : Follower → Message → Answer Appended
 answer_to f m = maybe_append f.log f.settled f.pending m.idx m.term m.commit m.run
 
 -- An answer, and the follower after it: its pending store is the one that `maybe_append` promises beside that answer, where "every other word stays".
-abbrev pub reception_of : Follower → Message → Appended → Reception
+abbrev pub reception_of : Follower → Message → Answer Appended → Reception
 reception_of f m a = record { answer = a; follower = record { log = log_appended a f.log; settled = f.settled; pending = maybe_append_store a f.pending m.idx m.run } }
 
 -- THE ENGINE'S way to take a message in: what `maybe_append` promises. Demand 3 is proved of it.
@@ -118,7 +113,7 @@ abbrev pub with_log : Follower → Log → Follower
 with_log f l = record { log = l; settled = f.settled; pending = f.pending }
 
 -- After `stable_entries`, whose answer is a: "pending is copied to settled".
-abbrev pub settled_by : Follower → Changed → Follower
+abbrev pub settled_by : Follower → Answer Log → Follower
 settled_by f a = record { log = log_changed a f.log; settled = stable_entries_store a f.log f.settled f.pending; pending = f.pending }
 
 -- The follower after what it does: it "settles, persists and applies", or reads and stays as it is.
@@ -148,12 +143,12 @@ follow rcv f (e ∷ es) = follow rcv (step rcv f e) es
 -- ---- "a log that set-up and these calls made" (01): reachable by `new` and the calls of raft_log
 
 -- After `append`, whose answer is a: its pending store is the one that `append` promises beside it, where "every other word stays".
-abbrev pub extended_by : Follower → List ℕ → Extended → Follower
+abbrev pub extended_by : Follower → List ℕ → Answer (Index × Log) → Follower
 extended_by f run a = record { log = log_extended a f.log; settled = f.settled; pending = append_run_store a f.pending run }
 
 -- "a log that set-up and these calls made": what set-up makes, and what each call makes of what was made; the calls that only look change nothing.
 pub data Made : Follower → Type 0 where
-  set_up : (start startterm last : ℕ) (settled pending : List ℕ) (l : Log) → new_log start startterm last settled ≡ changed.Now l → Made (record { log = l; settled = settled; pending = pending })
+  set_up : (start startterm last : ℕ) (settled pending : List ℕ) (l : Log) → new_log start startterm last settled ≡ Ok l → Made (record { log = l; settled = settled; pending = pending })
   by_maybe_append : (f : Follower) → Made f → (m : Message) → Made (engine f m).follower
   by_between : (f : Follower) → Made f → (b : Between) → Made (does f b)
   by_append : (f : Follower) → Made f → (run : List ℕ) → Made (extended_by f run (append_run f.log f.settled f.pending run))

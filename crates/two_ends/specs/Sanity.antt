@@ -1,12 +1,11 @@
 -- Two ends to try the promise on, and receivers that must not keep it. A reader must know: each of these is the engine with one thing wrong; that `Theorem` fails of it is proved in proofs/Wrong.antt.
-use Rattle.std.specs.Prelude.{ℕ, ◌+◌, min, max, true, cond, List, [], ◌∷◌, eqb}
+use Rattle.std.specs.Prelude.{ℕ, ◌+◌, min, max, true, cond, List, [], ◌∷◌, eqb, Ok, Err}
 use Rattle.units.specs.Units.{index_of, as_term}
-use Rattle.units.specs.Refusals.{broken_state, misnumbered_run, zero_term, mismatch}
-use Rattle.units.specs.declared.Index.{Index}
+use Rattle.units.specs.declared.refusal.Refusal.TheVariants as refusal
+use Rattle.units.specs.Refusals.{Answer}
 use Rattle.rules.specs.Log.{Entry, entry}
 use Rattle.raft_log.specs.declared.Log.{Log}
 use Rattle.raft_log.specs.declared.Appended.{Appended}
-use Rattle.raft_log.specs.declared.Appended.TheVariants.{Done, Refused}
 use Rattle.raft_log.specs.Words.{run_count}
 use Rattle.raft_log.specs.State.{broken}
 use Rattle.raft_log.specs.Run.{misnumbered, zero_term_in}
@@ -69,50 +68,54 @@ corrected = record { log = log_with 3 1 3 2; settled = settled_words; pending = 
 -- ---- wrong receivers
 
 -- Another answer where the engine accepts; its refusals stay. For the wrong receivers below.
-abbrev pub accepting : (Index → Index → Log → Appended) → Appended → Appended
-accepting other (Done conflict last after) = other conflict last after
-accepting other (Refused number) = Refused number
+abbrev pub accepting : (Appended → Answer Appended) → Answer Appended → Answer Appended
+accepting other (Ok said) = other said
+accepting other (Err number) = Err number
+
+-- The engine's answer with another log after it. For the same.
+abbrev pub with_its : Appended → Log → Answer Appended
+with_its said log = Ok (record { conflict = said.conflict; last = said.last; log = log })
 
 -- "An engine that turns everything down ..
 abbrev pub refuses_all : Receiver
-refuses_all f m = reception_of f m (Refused mismatch)
+refuses_all f m = reception_of f m (Err refusal.Mismatch)
 
 -- .. or says yes and stores nothing, has to be caught by these promises."
 abbrev pub stores_nothing : Receiver
-stores_nothing f m = reception_of f m (accepting (λ conflict last after. Done (index_of 0) last f.log) (answer_to f m))
+stores_nothing f m = reception_of f m (accepting (λ said. Ok (record { conflict = index_of 0; last = said.last; log = f.log })) (answer_to f m))
 
 -- 01: "one that cuts on every message": after idx, also where its run matches.
 abbrev pub cuts_always : Receiver
 cuts_always f m =
-    reception_of f m (accepting (λ conflict last after. Done (index_of (m.idx + 1)) last (commit_up (cut_if true f.log (m.idx + 1) last.0) m.commit last.0)) (answer_to f m))
+    reception_of f m (accepting (λ said. Ok (record { conflict = index_of (m.idx + 1); last = said.last; log = commit_up (cut_if true f.log (m.idx + 1) said.last.0) m.commit said.last.0 })) (answer_to f m))
 
 -- 01, tempting mistakes: "committing to `commit` without the minimum".
 abbrev pub commits_blindly : Receiver
-commits_blindly f m = reception_of f m (accepting (λ conflict last after. Done conflict last (with_committed after (max (committed f) m.commit))) (answer_to f m))
+commits_blindly f m = reception_of f m (accepting (λ said. with_its said (with_committed said.log (max (committed f) m.commit))) (answer_to f m))
 
 -- 01, tempting mistakes: "cutting everything after idx when the run already matches": only the run's records stay.
 abbrev pub cuts_behind_match : Receiver
 cuts_behind_match f m =
-    reception_of f m (accepting (λ conflict last after. Done conflict last (cut_if (eqb (alike f m) (run_count m.run)) after (last.0 + 1) last.0)) (answer_to f m))
+    reception_of f m (accepting (λ said. with_its said (cut_if (eqb (alike f m) (run_count m.run)) said.log (said.last.0 + 1) said.last.0)) (answer_to f m))
 
 -- 01, tempting mistakes: "taking term 0 as "absent, so no match" in ordinary lookups": the previous record is then another (5).
 abbrev pub zero_is_absent : Receiver
-zero_is_absent f m = reception_of f m (accepting (λ conflict last after. cond (eqb m.term 0) (Refused mismatch) (Done conflict last after)) (answer_to f m))
+zero_is_absent f m = reception_of f m (accepting (λ said. cond (eqb m.term 0) (Err refusal.Mismatch) (Ok said)) (answer_to f m))
 
 -- 01, tempting mistakes: "lowering persisted when there is no conflict": to idx, as if the first record were one.
 abbrev pub lowers_persisted : Receiver
-lowers_persisted f m = reception_of f m (accepting (λ conflict last after. Done conflict last (with_persisted after (min f.log.persisted.0 m.idx))) (answer_to f m))
+lowers_persisted f m = reception_of f m (accepting (λ said. with_its said (with_persisted said.log (min f.log.persisted.0 m.idx))) (answer_to f m))
 
 -- Leaves persisted where it was on a conflict, without "persisted becomes the smaller of itself and conflict - 1".
 abbrev pub persisted_stays : Receiver
-persisted_stays f m = reception_of f m (accepting (λ conflict last after. Done conflict last (with_persisted after f.log.persisted.0)) (answer_to f m))
+persisted_stays f m = reception_of f m (accepting (λ said. with_its said (with_persisted said.log f.log.persisted.0)) (answer_to f m))
 
 -- Does not give 4, "previous term 0 and idx outside [start, last]": the table of `maybe_append` without that line.
 abbrev pub no_refusal_4 : Receiver
 no_refusal_4 f m =
     reception_of f m
-    (cond (broken f.log f.settled f.pending) (Refused broken_state)
-    (cond (misnumbered m.run m.idx) (Refused misnumbered_run)
-    (cond (zero_term_in m.run) (Refused zero_term)
-    (cond (mismatched f.log f.settled f.pending m.idx m.term) (Refused mismatch)
+    (cond (broken f.log f.settled f.pending) (Err refusal.BrokenState)
+    (cond (misnumbered m.run m.idx) (Err refusal.MisnumberedRun)
+    (cond (zero_term_in m.run) (Err refusal.ZeroTerm)
+    (cond (mismatched f.log f.settled f.pending m.idx m.term) (Err refusal.Mismatch)
     (decide f.log f.pending m.idx m.commit (run_count m.run) (alike f m))))))

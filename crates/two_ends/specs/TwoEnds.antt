@@ -1,11 +1,10 @@
 -- DEMAND 3, as a statement. A reader must know: `Premises` is what the customer grants at the start, `TwoEnds` what is promised from then on; each part stands beside its words of the request. The list xs is "all that the list ever comes to hold"; that messages are cut from it while it grows is in World.antt.
-use Rattle.std.specs.Prelude.{ℕ, ◌≤◌, ◌≡◌, false, ◌↔◌, ◌⊎◌, List, [], ◌∷◌, length}
+use Rattle.std.specs.Prelude.{ℕ, ◌≤◌, ◌≡◌, false, ◌↔◌, ◌⊎◌, List, [], ◌∷◌, length, Ok, Err}
 use Rattle.units.specs.Units.{index_limit}
-use Rattle.units.specs.Refusals.{broken_state, misnumbered_run, zero_term, cuts_committed}
-use Rattle.units.specs.declared.Index.{Index}
+use Rattle.units.specs.declared.refusal.Refusal.{Refusal}
+use Rattle.units.specs.declared.refusal.Refusal.TheVariants as refusal
 use Rattle.rules.specs.Log.{Entry, whole_list, entry_at, term_of, Holds, Same, Matching, Agree}
-use Rattle.raft_log.specs.declared.Log.{Log}
-use Rattle.raft_log.specs.declared.Appended.TheVariants as appended
+use Rattle.raft_log.specs.declared.Appended.{Appended}
 use Rattle.raft_log.specs.State.{broken}
 use Rattle.log_laws.specs.Keep.{NonzeroTerms}
 use Rattle.two_ends.specs.Follower.{Follower, held, committed, Message, last_index_of, WellFormed, Reception, Receiver, HasRoom, Event, arrives, between, follow, Made}
@@ -39,7 +38,7 @@ HoldsPrevious f m = Holds (held f) m.idx × (term_of (held f) m.idx ≡ m.term)
 
 -- The message is accepted, and the answer names the index k: "Each acceptance names the message's last index".
 abbrev pub Accepts : Reception → ℕ → Type 0
-Accepts o k = (conflict : Index) × (named : Index) × (after : Log) × (o.answer ≡ appended.Done conflict named after) × (named.0 ≡ k)
+Accepts o k = (said : Appended) × (o.answer ≡ Ok said) × (said.last.0 ≡ k)
 
 -- What is promised of a follower that is `now`, whatever the message m; the request's words stand beside the parts.
 pub record OfMessage (rcv : Receiver) (xs : List Entry) (now : Follower) (m : Message) : Type 0 where
@@ -47,12 +46,12 @@ pub record OfMessage (rcv : Receiver) (xs : List Entry) (now : Follower) (m : Me
   pub accepts : CutFrom xs m → ((k : ℕ) × Accepts (rcv now m) k) ↔ (HoldsPrevious now m × HasRoom now m)
   pub names : CutFrom xs m → (k : ℕ) → Accepts (rcv now m) k → k ≡ last_index_of m
   -- "none is reported in conflict"; and the state rules are never found broken
-  pub no_conflict : Possible xs m → (rcv now m).answer ≡ appended.Refused cuts_committed → ⊥
-  pub no_broken : Possible xs m → (rcv now m).answer ≡ appended.Refused broken_state → ⊥
+  pub no_conflict : Possible xs m → (rcv now m).answer ≡ Err refusal.CutsCommitted → ⊥
+  pub no_broken : Possible xs m → (rcv now m).answer ≡ Err refusal.BrokenState → ⊥
   -- a refusal changes nothing; a message of the leader's is well-formed, a malformed one gets 2 or 3
-  pub refused_same : (n : ℕ) → (rcv now m).answer ≡ appended.Refused n → (rcv now m).follower ≡ now
+  pub refused_same : (n : Refusal) → (rcv now m).answer ≡ Err n → (rcv now m).follower ≡ now
   pub well_formed : CutFrom xs m → WellFormed m
-  pub malformed : (WellFormed m → ⊥) → ((rcv now m).answer ≡ appended.Refused misnumbered_run) ⊎ ((rcv now m).answer ≡ appended.Refused zero_term)
+  pub malformed : (WellFormed m → ⊥) → ((rcv now m).answer ≡ Err refusal.MisnumberedRun) ⊎ ((rcv now m).answer ≡ Err refusal.ZeroTerm)
 
 -- What is promised of a follower that is `now`, and `later` after more of the same; the request's words stand beside the parts.
 pub record Keeps (xs : List Entry) (now later : Follower) : Type 0 where

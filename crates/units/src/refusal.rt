@@ -1,40 +1,92 @@
-// The refusals of document 01, each number once. `specs/Refusals.antt` has the same table for the promises.
+// The refusals of document 01, each once, under its name; `number` gives the number of the document's table.
+ghost use Rattle.std.specs.Prelude.{◌≡◌};
+ghost use Rattle.units.specs.Refusals.{number_of, refusal_of};
 
-// State rules or store lengths broken.
-pub const BROKEN_STATE: u64 = 1;
+use std::error::Error;
+use std::fmt;
 
-// A run that is not of whole records, or whose indices don't rise by one, or that ends above the limit.
-pub const MISNUMBERED_RUN: u64 = 2;
+// Why a call refused. A refusal is the number alone where words are all that passes, and changes nothing.
+#[derive(Clone, Copy, Debug, PartialEq, Eq)]
+pub enum Refusal {
+    // State rules or store lengths broken.
+    BrokenState,
+    // A run that is not of whole records, or whose indices don't rise by one, or that ends above the limit.
+    MisnumberedRun,
+    // A zero term in a run, or in settled at set-up.
+    ZeroTerm,
+    // Previous term 0 and an index outside the log.
+    OutsideLog,
+    // The previous record doesn't match.
+    Mismatch,
+    // A conflict, or the start of an append, at or below committed.
+    CutsCommitted,
+    // No room.
+    NoRoom,
+    // An argument beyond what the log or its bounds allow.
+    OutOfRange,
+    // A low bound below the first index.
+    BelowFirst,
+    // Nothing is pending, or another last record.
+    NotPending,
+    // A full window.
+    WindowFull,
+    // Over the limit of voters or rows, or a repeated id among them.
+    BrokenSet,
+    // Window state broken.
+    BrokenWindow,
+}
 
-// A zero term in a run, or in settled at set-up.
-pub const ZERO_TERM: u64 = 3;
+impl Refusal {
+    // Its number in the table.
+    pub fn number(self) -> u64
+        ensures { result ≡ number_of self }
+    {
+        match self {
+            Refusal::BrokenState => 1,
+            Refusal::MisnumberedRun => 2,
+            Refusal::ZeroTerm => 3,
+            Refusal::OutsideLog => 4,
+            Refusal::Mismatch => 5,
+            Refusal::CutsCommitted => 6,
+            Refusal::NoRoom => 7,
+            Refusal::OutOfRange => 8,
+            Refusal::BelowFirst => 9,
+            Refusal::NotPending => 10,
+            Refusal::WindowFull => 11,
+            Refusal::BrokenSet => 12,
+            Refusal::BrokenWindow => 13,
+        }
+    }
+}
 
-// Previous term 0 and an index outside the log.
-pub const OUTSIDE_LOG: u64 = 4;
+// What a check found, where words are all that passes: 0, or the refusal's number.
+pub fn code(check: Result<(), Refusal>) -> u64
+    ensures { result ≡ refusal_of check }
+{
+    match check {
+        Ok(()) => 0,
+        Err(refusal) => refusal.number(),
+    }
+}
 
-// The previous record doesn't match.
-pub const MISMATCH: u64 = 5;
+impl fmt::Display for Refusal {
+    fn fmt<W: fmt::Write>(&self, f: &mut fmt::Formatter<W>) -> fmt::Result {
+        f.write_str(match self {
+            Refusal::BrokenState => "the state rules or the store lengths are broken",
+            Refusal::MisnumberedRun => "the run is not of whole records that follow on",
+            Refusal::ZeroTerm => "a term is zero",
+            Refusal::OutsideLog => "the previous index is outside the log",
+            Refusal::Mismatch => "the previous record doesn't match",
+            Refusal::CutsCommitted => "a committed record would be cut",
+            Refusal::NoRoom => "there is no room",
+            Refusal::OutOfRange => "an argument is out of range",
+            Refusal::BelowFirst => "the low bound is below the first index",
+            Refusal::NotPending => "nothing is pending, or another last record",
+            Refusal::WindowFull => "the window is full",
+            Refusal::BrokenSet => "too many ids, or one twice",
+            Refusal::BrokenWindow => "the window's state is broken",
+        })
+    }
+}
 
-// A conflict, or the start of an append, at or below committed.
-pub const CUTS_COMMITTED: u64 = 6;
-
-// No room.
-pub const NO_ROOM: u64 = 7;
-
-// An argument beyond what the log or its bounds allow.
-pub const OUT_OF_RANGE: u64 = 8;
-
-// A low bound below the first index.
-pub const BELOW_FIRST: u64 = 9;
-
-// Nothing is pending, or another last record.
-pub const NOT_PENDING: u64 = 10;
-
-// A full window.
-pub const WINDOW_FULL: u64 = 11;
-
-// Over the limit of voters or rows, or a repeated id among them.
-pub const BROKEN_SET: u64 = 12;
-
-// Window state broken.
-pub const BROKEN_WINDOW: u64 = 13;
+impl Error for Refusal {}

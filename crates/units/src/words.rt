@@ -6,18 +6,15 @@ ghost use Rattle.std.proofs.lemmas.List.Edits.{sets};
 pub fn shorter(a: usize, b: usize) -> usize
     ensures { result ≡ min a b }
 {
-    if a < b { a } else { b }
+    a.min(b)
 }
 
 // Copies `from` into `to`, from place `at` on: as many words as there is room for.
+#[tactic(auto, using(crate::proofs::Copying::copied))]
 pub fn copy_at(to: &mut [u64], at: usize, from: &[u64])
     ensures { to.new ≡ sets to.old at from.now }
 {
-    let room = to.len() - shorter(at, to.len());
-    let end = shorter(from.len(), room);
-    let mut i = 0;
-    while i < end {
-        to[at + i] = from[i];
-        i += 1;
-    }
+    let start = shorter(at, to.len());
+    let count = shorter(from.len(), to.len() - start);
+    to[start..start + count].copy_from_slice(&from[..count]);
 }

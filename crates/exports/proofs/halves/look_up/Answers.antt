@@ -19,10 +19,7 @@ module _ (f : ℕ → ℕ) (all voters : List ℕ) (i : ℕ) (front : take i all
   all_said e = ap (λ (k : ℕ). take k all) (sym e) ∙ front ∙ ap (λ (k : ℕ). map f (take k voters)) e ∙ ap (map f) (take-length voters)
 
 pub loop-i-preserved : goal.loop-i-preserved
-loop-i-preserved c = record {
-  within = omega arith;
-  front = one_more (read_of c.args.question c.args.words.now) c.loop-i.all c.args.voters.now c.loop-i.i c.loop-i.invariant.front (omega arith) (omega arith) c.found.result c.found.ensures;
-}
+loop-i-preserved c = one_more (read_of c.args.question c.args.words.now) c.loop-i.all c.args.voters.now c.loop-i.i c.loop-i.invariant (omega arith) (omega arith) c.found.result c.found.ensures
 
 pub returns : goal.returns
-returns c = all_said (read_of c.args.question c.args.words.now) c.loop-i.all c.args.voters.now c.loop-i.i c.loop-i.invariant.front (omega arith)
+returns c = all_said (read_of c.args.question c.args.words.now) c.loop-i.all c.args.voters.now c.loop-i.i c.loop-i.invariant (omega arith)

@@ -1,29 +1,14 @@
-use Rattle.std.proofs.Common.{◌≡◌, ℕ, ◌+◌, ◌≤◌, ◌<◌, List, length, get_or, drop, ap, ◌∙◌, arith}
-use Rattle.std.proofs.Math.ListN.{drop_of_length-le}
-use Rattle.quorum.specs.Ids.{position}
-use Rattle.quorum.proofs.IdLaws.{position_here, position_next}
-use Rattle.quorum.proofs.Rest.{rest_cons}
+-- The library's `position` finds what the promise names; `unwrap_or` says the length where it finds none.
+use Rattle.std.proofs.Common.{◌≡◌, ℕ, Option, eqb, position, length, ap, ◌∙◌, rules}
+use Rattle.std.specs.Option.{unwrap_or}
+use Rattle.std.proofs.lemmas.Iterator.{YieldsList-from_slice}
+use Rattle.std.proofs.lemmas.Iterator.Search.{position_from_yields_List}
+use borrow.Author.Tests.{tests}
+use Rattle.quorum.proofs.IdLaws.{position_or_length}
 use Rattle.quorum.proofs.ids.position.Goals as goal
 
--- The place in what is left at i, by the word there.
-here : (ids : List ℕ) (id i : ℕ) → i < length ids → get_or ids i 0 ≡ id → position id (drop i ids) ≡ 0
-here ids id i h e = ap (position id) (rest_cons ids i h) ∙ position_here id (get_or ids i 0) (drop (i + 1) ids) e
-
-next : (ids : List ℕ) (id i : ℕ) → i < length ids → (get_or ids i 0 ≡ id → ⊥) → position id (drop i ids) ≡ 1 + position id (drop (i + 1) ids)
-next ids id i h e = omega (arith, ap (position id) (rest_cons ids i h), position_next id (get_or ids i 0) (drop (i + 1) ids) e)
-
-none : (ids : List ℕ) (id i : ℕ) → length ids ≤ i → position id (drop i ids) ≡ 0
-unfolding position
-none ids id i h = ap (position id) (drop_of_length-le ids h)
-
-pub returns-then-ids-i : goal.returns-then-ids-i
-returns-then-ids-i c = omega (arith, here c.args.ids.now c.args.id c.loop-i.i (omega arith) c.if-ids-i.true)
-
-pub loop-i-preserved : goal.loop-i-preserved
-loop-i-preserved c = record {
-  within = omega arith;
-  left = omega (arith, next c.args.ids.now c.args.id c.loop-i.i (omega arith) c.if-ids-i.false);
-}
-
 pub returns : goal.returns
-returns c = omega (arith, none c.args.ids.now c.args.id c.loop-i.i (omega arith))
+returns c =
+    let found : c.position.result ≡ position (λ x. eqb x c.args.id) c.args.ids.now =
+    position_from_yields_List (λ x. eqb x c.args.id) _ _ _ c.position.ensures.ran (YieldsList-from_slice c.args.ids.now cc) (λ x b q k. search (rules, tests)) in
+    c.unwrap_or.ensures ∙ ap (λ (o : Option ℕ). unwrap_or o (length c.args.ids.now)) found ∙ position_or_length c.args.id c.args.ids.now

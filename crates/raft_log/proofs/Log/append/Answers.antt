@@ -1,5 +1,6 @@
 -- `append` meets its contract: the answer is decided first, and what it says is what the copy asks.
 use Rattle.std.proofs.Common.{◌≡◌, ◌-◌, ℕ, List, ◌∙◌}
+use Rattle.std.proofs.lemmas.Result.{err_from_is_err_and}
 use Rattle.raft_log.specs.Words.{run_index, run_count, put_run}
 use Rattle.raft_log.proofs.Extending.{store_refused, store_empty, store_put}
 use Rattle.raft_log.proofs.Log.append.Goals as goal
@@ -9,8 +10,9 @@ put_read : (s run : List ℕ) (offset : ℕ) {first n : ℕ} → first ≡ run_i
     → put_run s (first - offset) run 0 n ≡ put_run s (run_index run 0 - offset) run 0 (run_count run)
 put_read s run offset e f = cc
 
-pub returns-in_default-clause-store : goal.returns-in_default-clause-store
-returns-in_default-clause-store c = store_refused _ _ c.in_default.is
+pub returns-in_err-last-clause-store : goal.returns-in_err-last-clause-store
+returns-in_err-last-clause-store c =
+    store_refused _ _ (err_from_is_err_and c.from_residual.result c.from_residual.ensures.1).1
 
 pub returns-then-run-eq0-clause-store : goal.returns-then-run-eq0-clause-store
 returns-then-run-eq0-clause-store c = store_empty _ _ _ _ c.if-run-eq0.true

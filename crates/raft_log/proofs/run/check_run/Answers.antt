@@ -1,6 +1,6 @@
 -- `check_run` meets its contract: a test that fails breaks a rule of the run, and the pass tells the rest.
-use Rattle.std.proofs.Common.{ℕ, sym, ap, ◌∙◌, arith}
-use Rattle.raft_log.specs.declared.run.Checked.TheVariants.{Records, Refused}
+use Rattle.std.proofs.Common.{sym, ap, ◌∙◌, arith}
+use Rattle.std.proofs.lemmas.Result.{err_from_is_err_and}
 use Rattle.raft_log.specs.Run.{scan_run}
 use Rattle.raft_log.proofs.Runs.{run_misnumbered, run_bad, run_good}
 use Rattle.raft_log.proofs.run.check_run.Goals as goal
@@ -14,13 +14,13 @@ returns-then-idx-gt-LIMIT c = sym (run_misnumbered _ _ (λ r. omega arith))
 pub returns-then-n-idx : goal.returns-then-n-idx
 returns-then-n-idx c = sym (run_misnumbered _ _ (λ r. omega arith))
 
-pub returns-then-mark-ne0 : goal.returns-then-mark-ne0
-returns-then-mark-ne0 c =
-    let e = c.scan_run-mark.ensures ∙ ap (scan_run _ _) c.run_count-n.ensures in
-    ap (λ (x : ℕ). Refused x) e ∙ sym (run_bad _ _ (omega arith) (omega arith) (λ z. c.if-mark-ne0.true (e ∙ z)))
+pub returns-in_err-scan_run : goal.returns-in_err-scan_run
+returns-in_err-scan_run c =
+    let n = c.run_count-n.ensures in
+    let p = err_from_is_err_and c.from_residual.result c.from_residual.ensures.1 in
+    rw (p.1, p.2) (sym (run_bad _ _ (omega arith) (omega arith) (sym (c.in_err-scan_run.ensures ∙ ap (scan_run _ _) n))))
 
 pub returns : goal.returns
 returns c =
     let n = c.run_count-n.ensures in
-    let e = c.scan_run-mark.ensures ∙ ap (scan_run _ _) n in
-    ap (λ (x : ℕ). Records x) n ∙ sym (run_good _ _ (omega arith) (omega arith) (sym e ∙ c.if-mark-ne0.false))
+    rw n (sym (run_good _ _ (omega arith) (omega arith) (sym (c.in_ok-scan_run.ensures ∙ ap (scan_run _ _) n))))

@@ -13,8 +13,10 @@ returns-then-run_index-idx c =
     sym (scan_misplaced _ _ _ c.loop-k-test.true hit)
 
 pub loop-k-preserved : goal.loop-k-preserved
-loop-k-preserved c =
-    scan_next c.loop-k.invariant c.loop-k-test.true (omega arith) c.run_term.ensures c.mark_zero-mark.ensures
+loop-k-preserved c = rw c.run_term.ensures (scan_next c.loop-k.invariant c.loop-k-test.true (omega arith))
+
+pub returns-then-zero : goal.returns-then-zero
+returns-then-zero c = sym (scan_end _ _ _ (rw c.if-zero.true at c.loop-k.invariant) c.loop-k-test.false)
 
 pub returns : goal.returns
-returns c = scan_end _ _ _ c.loop-k.invariant c.loop-k-test.false
+returns c = sym (scan_end _ _ _ (rw c.if-zero.false at c.loop-k.invariant) c.loop-k-test.false)

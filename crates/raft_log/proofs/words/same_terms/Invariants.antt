@@ -1,10 +1,6 @@
-use Rattle.std.proofs.Common.{◌-◌}
 use Rattle.raft_log.specs.Words.{other_term}
 use Rattle.raft_log.proofs.Searching.{Seek}
 use Rattle.raft_log.proofs.words.same_terms.Given as goal
 
 abbrev pub invariant-loop-i : goal.invariant-loop-i
 invariant-loop-i l = Seek (other_term l.store l.at l.run l.k) l.n l.i
-
-abbrev pub decreases-loop-i : goal.decreases-loop-i
-decreases-loop-i l = l.n - l.i
