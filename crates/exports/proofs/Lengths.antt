@@ -1,4 +1,4 @@
--- What a call leaves, by the length of a slice that it is lent: the two ends of each test. And that no result but 0 is no refusal.
+-- What a call leaves, by the length of a slice that it is lent: the two ends of each test. And that a refusal's result is never 0.
 use mathlib.Core.Path.{◌≡◌, refl, subst, ◌∙◌}
 use mathlib.Core.List.{List}
 use mathlib.Core.Logic.{⊎_elim}

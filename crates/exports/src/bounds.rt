@@ -7,7 +7,7 @@ ghost use Rattle.exports.specs.Reads.{part_words, bounds_words, NamesHeld};
 
 use raft_log::{Bounds, Log};
 
-// The store that holds a part, by number.
+// The store that holds a part, by number: what C is told.
 const SETTLED: u64 = 1;
 
 const PENDING: u64 = 2;

@@ -1,22 +1,21 @@
-// The quorum questions over words. The row of a voter is looked up where it stands, so that nothing is copied but what each voter said.
-ghost use Rattle.std.specs.Prelude.{◌≡◌, map, ◌+◌, ◌*◌, ◌≤◌, length, take, drop};
-ghost use Rattle.quorum.specs.Limits.{voter_limit};
+// Peer rows in words, for the questions of crate quorum. The row of a voter is looked up where it stands, so that nothing is copied but what each voter said.
+ghost use Rattle.std.specs.Prelude.{◌≡◌, ◌+◌, ◌*◌, ◌≤◌, drop};
 ghost use Rattle.quorum.specs.Ids.{position, distinct as distinct_of};
 ghost use Rattle.quorum.specs.Rows.{rows_check};
-ghost use Rattle.quorum.specs.Voters.{set_of};
-ghost use Rattle.quorum.specs.Half.{half_index, numbers_result};
-ghost use Rattle.quorum.specs.Majority.{committed_index, vote_result};
-ghost use Rattle.quorum.specs.Joint.{joint_committed_index, joint_vote_result};
 ghost use Rattle.quorum.specs.declared.rows.Question.TheVariants as question;
-ghost use Rattle.exports.specs.Rows.{row_length, peers_from, rows_end, BetweenRows, row_ids, read_of, config_from};
+ghost use Rattle.exports.specs.Rows.{row_length, peers_from, rows_end, BetweenRows, row_ids, read_of};
 
 use crate::rows::{ROW, row};
-use quorum::VoteResult;
-use quorum::half::{Half, index_of, joined, joint_result, result_of};
-use quorum::majority::{Voters, ids_checked};
-use quorum::rows::{Question, Rows, value};
-use units::Index;
+use quorum::rows::{PeerRows, Question, Rows, value};
 use units::refusal::Refusal;
+
+// Peer rows as words, for what a majority has acknowledged.
+#[derive(Clone, Copy)]
+pub struct AckWords<'a>(pub &'a [u64]);
+
+// For how a vote stands. A type each, since the joint index took 4 to 10 per cent more instructions with the question as a field.
+#[derive(Clone, Copy)]
+pub struct VoteWords<'a>(pub &'a [u64]);
 
 // Where the words of the last row end.
 fn rows_end(words: &[u64]) -> usize
@@ -85,86 +84,30 @@ fn found(words: &[u64], id: u64, question: Question) -> u64
     0
 }
 
-// What each voter said, in the voters' order, at the front of `all`.
-fn look_up(all: &mut [u64], voters: &[u64], words: &[u64], question: Question)
-    requires { length voters.now ≤ length all.old }
-    ensures { take (length voters.now) all.new ≡ map (read_of question words.now) voters.now }
-{
-    for (i, id) in voters.iter().enumerate() {
-        all[i] = found(words, *id, question);
+impl PeerRows for AckWords<'_> {
+    ghost check = { λ rows. rows_check (peers_from rows.0.now) };
+
+    ghost said = { λ rows. read_of question.Index rows.0.now };
+
+    fn checked(&self) -> Result<(), Refusal> {
+        rows_checked(self.0)
+    }
+
+    fn said(&self, id: u64) -> u64 {
+        found(self.0, id, Question::Index)
     }
 }
 
-// How far one half has committed.
-fn half_index(voters: &[u64], rows: &[u64]) -> Half
-    requires { length voters.now ≤ voter_limit }
-    ensures { result ≡ half_index (map (read_of question.Index rows.now) voters.now) }
-{
-    let count = voters.len();
-    let mut acks = [0u64; Voters::LIMIT];
-    look_up(&mut acks, voters, rows, Question::Index);
-    index_of(&mut acks[..count])
-}
+impl PeerRows for VoteWords<'_> {
+    ghost check = { λ rows. rows_check (peers_from rows.0.now) };
 
-// How the vote of one half stands.
-fn half_result(voters: &[u64], rows: &[u64]) -> VoteResult
-    requires { length voters.now ≤ voter_limit }
-    ensures { result ≡ numbers_result (map (read_of question.Vote rows.now) voters.now) }
-{
-    let count = voters.len();
-    let mut votes = [0u64; Voters::LIMIT];
-    look_up(&mut votes, voters, rows, Question::Vote);
-    result_of(&votes[..count])
-}
+    ghost said = { λ rows. read_of question.Vote rows.0.now };
 
-// How far a majority has acknowledged.
-#[tactic(auto, using(crate::proofs::Asked::acks_read), unfolding(quorum::specs::Majority::committed_index))]
-pub fn majority_index(voters: &[u64], rows: &[u64]) -> Result<(Index, bool), Refusal>
-    ensures { result ≡ committed_index (set_of voters.now) (peers_from rows.now) }
-{
-    ids_checked(voters)?;
-    rows_checked(rows)?;
-    let half = half_index(voters, rows);
-    Ok((Index(half.index), half.free))
-}
+    fn checked(&self) -> Result<(), Refusal> {
+        rows_checked(self.0)
+    }
 
-// How the vote stands.
-#[tactic(auto, using(crate::proofs::Asked::votes_read), unfolding(quorum::specs::Majority::vote_result))]
-pub fn majority_verdict(voters: &[u64], rows: &[u64]) -> Result<VoteResult, Refusal>
-    ensures { result ≡ vote_result (set_of voters.now) (peers_from rows.now) }
-{
-    ids_checked(voters)?;
-    rows_checked(rows)?;
-    Ok(half_result(voters, rows))
-}
-
-// How far a majority of both halves has acknowledged.
-#[tactic(auto, using(crate::proofs::Asked::acks_read), unfolding(quorum::specs::Joint::joint_committed_index))]
-pub fn joint_index(
-    incoming: &[u64],
-    outgoing: &[u64],
-    rows: &[u64],
-) -> Result<(Index, bool), Refusal>
-    ensures { result ≡ joint_committed_index (config_from incoming.now outgoing.now) (peers_from rows.now) }
-{
-    ids_checked(incoming)?;
-    ids_checked(outgoing)?;
-    rows_checked(rows)?;
-    let half = joined(half_index(incoming, rows), half_index(outgoing, rows));
-    Ok((Index(half.index), half.free))
-}
-
-// How the vote of both halves stands.
-#[tactic(auto, using(crate::proofs::Asked::votes_read), unfolding(quorum::specs::Joint::joint_vote_result))]
-pub fn joint_verdict(
-    incoming: &[u64],
-    outgoing: &[u64],
-    rows: &[u64],
-) -> Result<VoteResult, Refusal>
-    ensures { result ≡ joint_vote_result (config_from incoming.now outgoing.now) (peers_from rows.now) }
-{
-    ids_checked(incoming)?;
-    ids_checked(outgoing)?;
-    rows_checked(rows)?;
-    Ok(joint_result(half_result(incoming, rows), half_result(outgoing, rows)))
+    fn said(&self, id: u64) -> u64 {
+        found(self.0, id, Question::Vote)
+    }
 }

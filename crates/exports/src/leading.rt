@@ -4,14 +4,15 @@ ghost use Rattle.units.specs.Refusals.{refusal_of};
 ghost use Rattle.exports.specs.Words.{leaves};
 ghost use Rattle.exports.specs.QuorumCalls.{leader_commit_leaves};
 
-use crate::halves::joint_index;
+use crate::halves::AckWords;
 use crate::words::{LOG, SINGLE, load, long_enough, store_decided};
 use leader::commit_found;
+use quorum::joint::committed_index_by;
 use units::Term;
 use units::refusal::Refusal;
 
 // Commits what a majority of every nonempty half has acknowledged. Value: 1 for yes, 0 for no.
-#[tactic(auto, unfolding(crate::specs::Words::unless_short, leader::specs::Leader::leader_commit))]
+#[tactic(auto, using(crate::proofs::Asked::joint_asked), unfolding(crate::specs::Words::unless_short, leader::specs::Leader::leader_commit))]
 pub fn leader_maybe_commit(
     log: &mut [u64],
     settled: &[u64],
@@ -26,7 +27,7 @@ pub fn leader_maybe_commit(
 {
     long_enough(log, LOG)?;
     long_enough(answer, SINGLE)?;
-    let found = joint_index(incoming, outgoing, rows);
+    let found = committed_index_by(incoming, outgoing, &AckWords(rows));
     let decided = commit_found(load(log), settled, pending, Term(term), found)?;
     store_decided(log, answer, decided);
     Ok(())

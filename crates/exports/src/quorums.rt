@@ -6,15 +6,16 @@ ghost use Rattle.units.specs.Refusals.{refusal_of};
 ghost use Rattle.exports.specs.Words.{pair_length, put, leaves};
 ghost use Rattle.exports.specs.QuorumCalls.{result_word, sizes_words, majority_committed_index_leaves, majority_vote_result_leaves, joint_committed_index_leaves, joint_vote_result_leaves, is_singleton_leaves, contains_leaves, joint_ids_leaves, clear_leaves, voters_refusal, joint_refusal, rows_refusal};
 
-use crate::halves::{joint_index, joint_verdict, majority_index, majority_verdict};
+use crate::halves::{AckWords, VoteWords};
 use crate::rows::config;
 use crate::words::{IDS, PAIR, SINGLE, flag, long_enough, store_pair};
-use quorum::VoteResult;
 use quorum::joint::JointConfig;
 use quorum::majority::ids_checked;
+use quorum::{VoteResult, joint, majority};
 use units::refusal::Refusal;
 use units::words::copy_at;
 
+// The number that C is told.
 fn result_word(res: VoteResult) -> u64
     ensures { result ≡ result_word res }
 {
@@ -35,6 +36,7 @@ fn store_sizes(answer: &mut [u64], config: JointConfig)
 }
 
 // How far a majority has acknowledged. Values: the index, and 1 if nobody had a say.
+#[tactic(auto, using(crate::proofs::Asked::index_asked), unfolding(crate::specs::Words::unless_short))]
 pub fn majority_committed_index(
     voters: &[u64],
     rows: &[u64],
@@ -43,21 +45,23 @@ pub fn majority_committed_index(
     ensures { leaves (refusal_of result) (answer.new ∷ []) ≡ majority_committed_index_leaves voters.now rows.now answer.old }
 {
     long_enough(answer, PAIR)?;
-    let (index, free) = majority_index(voters, rows)?;
+    let (index, free) = majority::committed_index_by(voters, &AckWords(rows))?;
     store_pair(answer, index.0, flag(free));
     Ok(())
 }
 
 // How the vote stands: 0 pending, 1 lost, 2 won.
+#[tactic(auto, using(crate::proofs::Asked::result_asked), unfolding(crate::specs::Words::unless_short))]
 pub fn majority_vote_result(voters: &[u64], rows: &[u64], answer: &mut [u64]) -> Result<(), Refusal>
     ensures { leaves (refusal_of result) (answer.new ∷ []) ≡ majority_vote_result_leaves voters.now rows.now answer.old }
 {
     long_enough(answer, SINGLE)?;
-    answer[0] = result_word(majority_verdict(voters, rows)?);
+    answer[0] = result_word(majority::vote_result_by(voters, &VoteWords(rows))?);
     Ok(())
 }
 
 // How far a majority of both halves has acknowledged.
+#[tactic(auto, using(crate::proofs::Asked::joint_asked), unfolding(crate::specs::Words::unless_short))]
 pub fn joint_committed_index(
     incoming: &[u64],
     outgoing: &[u64],
@@ -67,12 +71,13 @@ pub fn joint_committed_index(
     ensures { leaves (refusal_of result) (answer.new ∷ []) ≡ joint_committed_index_leaves incoming.now outgoing.now rows.now answer.old }
 {
     long_enough(answer, PAIR)?;
-    let (index, free) = joint_index(incoming, outgoing, rows)?;
+    let (index, free) = joint::committed_index_by(incoming, outgoing, &AckWords(rows))?;
     store_pair(answer, index.0, flag(free));
     Ok(())
 }
 
 // How the vote of both halves stands.
+#[tactic(auto, using(crate::proofs::Asked::verdict_asked), unfolding(crate::specs::Words::unless_short))]
 pub fn joint_vote_result(
     incoming: &[u64],
     outgoing: &[u64],
@@ -82,7 +87,7 @@ pub fn joint_vote_result(
     ensures { leaves (refusal_of result) (answer.new ∷ []) ≡ joint_vote_result_leaves incoming.now outgoing.now rows.now answer.old }
 {
     long_enough(answer, SINGLE)?;
-    answer[0] = result_word(joint_verdict(incoming, outgoing, rows)?);
+    answer[0] = result_word(joint::vote_result_by(incoming, outgoing, &VoteWords(rows))?);
     Ok(())
 }
 

@@ -42,7 +42,7 @@ pub fn long_enough(slice: &[u64], words: usize) -> Result<(), Refusal>
 pub fn flag(b: bool) -> u64
     ensures { result ≡ flag_word b }
 {
-    if b { 1 } else { 0 }
+    u64::from(b)
 }
 
 // The log whose state a slice begins with.
@@ -90,8 +90,11 @@ pub fn store_decided(log: &mut [u64], answer: &mut [u64], decided: Option<Log>)
     requires { (log_length ≤ length log.old) × (single_length ≤ length answer.old) }
     ensures { log.new ∷ answer.new ∷ [] ≡ decided_writes log.old answer.old decided }
 {
-    answer[0] = flag(decided.is_some());
-    if let Some(after) = decided {
-        store(log, after);
+    match decided {
+        Some(after) => {
+            store(log, after);
+            answer[0] = flag(true);
+        }
+        None => answer[0] = flag(false),
     }
 }

@@ -1,7 +1,7 @@
 // The calls of `exports::quorums`, for C.
-ghost use Rattle.std.specs.Prelude.{◌≡◌, [], ◌∷◌, ◌≤◌, length};
-ghost use Rattle.exports.specs.Words.{single_length, pair_length, ids_length, leaves};
-ghost use Rattle.exports.specs.QuorumCalls.{result_word, committed_leaves, verdict_leaves, ids_leaves, sizes_leaves, majority_committed_index_leaves, majority_vote_result_leaves, joint_committed_index_leaves, joint_vote_result_leaves, is_singleton_leaves, contains_leaves, joint_ids_leaves, clear_leaves, voters_refusal, joint_refusal, rows_refusal};
+ghost use Rattle.std.specs.Prelude.{◌≡◌, [], ◌∷◌};
+ghost use Rattle.exports.specs.Words.{leaves};
+ghost use Rattle.exports.specs.QuorumCalls.{majority_committed_index_leaves, majority_vote_result_leaves, joint_committed_index_leaves, joint_vote_result_leaves, is_singleton_leaves, contains_leaves, joint_ids_leaves, clear_leaves, voters_refusal, joint_refusal, rows_refusal};
 
 use units::refusal::code;
 

@@ -1,6 +1,6 @@
 -- How many flights in front are at most `to`: no more than there are, and as many as a walk along them passes, where it stops and where it ends.
 use Prim.Native.Nat.{ℕ, zero, suc, ◌+◌, ◌≤◌, ◌<◌}
-use mathlib.Core.Path.{◌≡◌, refl, ap, subst}
+use mathlib.Core.Path.{◌≡◌, refl, sym, ap, subst}
 use mathlib.Core.Bool.{true, false}
 use mathlib.Core.List.{List, [], ◌∷◌}
 use native.Mathlib.Omega.{arith}
@@ -10,7 +10,8 @@ use lib.ListN.{length}
 use Rattle.units.specs.Lists.{listed}
 use Rattle.units.proofs.Cond.{both_ends}
 use Rattle.units.proofs.Lists.{length-listed}
-use Rattle.inflights.specs.Ring.{flight_at, flights_from, leading}
+use Rattle.inflights.proofs.Places.{place_zero}
+use Rattle.inflights.specs.Ring.{InRing, place_of, flight_at, flights_from, leading}
 
 stops_at : (to c : ℕ) (f : ℕ → ℕ) (k i : ℕ) → i ≤ c → ((j : ℕ) → j < k + i → f j ≤ to) → (i < c → to < f (k + i)) → i ≡ leading to (listed f k c)
 unfolding listed leading
@@ -42,3 +43,12 @@ module _ (start count : ℕ) (ring : List ℕ) (to : ℕ) where
   pub walk_ends : ((k : ℕ) → k < count → flight_at start ring k ≤ to) → count ≡ leading to (flights_from start count ring)
   unfolding flights_from
   walk_ends w = stops_at to count (flight_at start ring) 0 count (omega arith) (λ j p. w j (omega arith)) (λ h. absurd (omega arith))
+
+-- A walk from place to place, as it was: what it keeps, and that it does where it begins (TRUST.md names both).
+pub record Walked (start count : ℕ) (ring : List ℕ) (to at i : ℕ) : Type 0 where
+  pub within : i ≤ count
+  pub here : at ≡ place_of start i (length ring)
+  pub small : (k : ℕ) → k < i → flight_at start ring k ≤ to
+
+pub walk_begins : (start count : ℕ) (ring : List ℕ) (to : ℕ) → InRing start count (length ring) → Walked start count ring to start 0
+walk_begins start count ring to r = record { within = omega arith; here = sym (place_zero start (length ring) r.start_ring); small = λ k h. absurd (omega arith) }

@@ -1,5 +1,5 @@
 // The calls that change a window, where it lies: each stores back the window that the call by value answers.
-// Beside a refusal nothing has changed.
+// Beside a refusal nothing has changed. Both forms of a call stay, since PROMISES.md has a promise of each.
 ghost use Rattle.std.specs.Prelude.{◌≡◌, length};
 ghost use Rattle.inflights.specs.Calls.{capped, added, ring_after, freed_to, freed_first, cleared, rewound};
 ghost use Rattle.inflights.specs.InPlace.{step_of, Stored};

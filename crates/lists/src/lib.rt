@@ -18,7 +18,7 @@ use crate::text::{end_line, write_unknown};
 use std::io;
 use std::io::{Read, Write};
 
-// The call of one line.
+// The call of one line. A list names a call by its number, here and in the modules: an enum with `TryFrom` would say each of the 40 numbers and names twice more.
 fn replay_line<W: Write>(out: &mut W, line: &[u64]) -> io::Result<()> {
     match line.first().copied().unwrap_or(0) {
         1..=9 => window::replay(out, line)?,

@@ -1,6 +1,6 @@
 // Reads lines of decimal numbers, byte by byte, into lent words.
 
-// How far a line has been read: how many of its numbers are in the words, and the number that is being read.
+// How far a line has been read: how many of its numbers are in the words, and the number that is being read. The words are lent and counted, since there is no heap.
 #[derive(Clone, Copy)]
 pub struct Reader {
     pub count: usize,

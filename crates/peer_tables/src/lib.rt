@@ -9,7 +9,7 @@ ghost use Rattle.peer_tables.specs.Table.{no_rows, with_row, rows_lent};
 use quorum::rows::{Peer, Rows};
 use units::refusal::Refusal;
 
-// The rows: the first `count`. A count over the limit says only that there were too many.
+// The rows: the first `count`. A count over the limit says only that there were too many. An array and a count, since there is no heap, and since a table with too many rows is one that is asked (`table_vote_result_by_seven`).
 #[derive(Clone, Copy)]
 pub struct Table {
     pub peers: [Peer; Rows::LIMIT],

@@ -22,8 +22,8 @@ use Rattle.rules.specs.Count.{count}
 use Rattle.rules.specs.Majority.{insert, falling, kth_largest, committed}
 use Rattle.quorum.specs.Ids.{position, has, distinct}
 use Rattle.quorum.specs.Half.{half_index}
-use Rattle.quorum.specs.Majority.{committed_index, vote_result, plain_committed_index, plain_vote_result}
-use Rattle.quorum.specs.Joint.{joint_committed_index, joint_vote_result, plain_joint_committed_index, plain_joint_vote_result, rising, both_ids}
+use Rattle.quorum.specs.Majority.{committed_index, vote_result, committed_index_by, vote_result_by, plain_committed_index, plain_vote_result}
+use Rattle.quorum.specs.Joint.{joint_committed_index, joint_vote_result, joint_committed_index_by, joint_vote_result_by, plain_joint_committed_index, plain_joint_vote_result, rising, both_ids}
 use Rattle.inflights.specs.State.{start_fits, deferred_fits, sound, window_check, cap_check, is_full, room_check}
 use Rattle.inflights.specs.Ring.{place_of, flights_from, leading}
 use Rattle.inflights.specs.Calls.{made_window, with_cap, set_cap_check, capped, fullness, counted, add_check, added, ring_after, take_up, free_to, freed_to, freed_first, cleared, rewind, rewound}
@@ -35,7 +35,7 @@ unfolding flatten put_run first_from state_ok term_at numbered terms_set outside
 log_promises = tt
 
 unfoldable pub quorum_promises : Unit {0}
-unfolding flatten listed count insert falling kth_largest committed position has distinct half_index committed_index vote_result plain_committed_index plain_vote_result joint_committed_index joint_vote_result plain_joint_committed_index plain_joint_vote_result rising both_ids
+unfolding flatten listed count insert falling kth_largest committed position has distinct half_index committed_index vote_result committed_index_by vote_result_by plain_committed_index plain_vote_result joint_committed_index joint_vote_result joint_committed_index_by joint_vote_result_by plain_joint_committed_index plain_joint_vote_result rising both_ids
 quorum_promises = tt
 
 unfoldable pub window_promises : Unit {0}

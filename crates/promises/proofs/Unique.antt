@@ -1,6 +1,6 @@
 -- Two answers that meet a promise are equal: a law for every public call of every library crate, in the order and under the headings of docs/PROMISES.md, each by `one_answer`.
 -- A law takes what the call takes, a lent slice as the words in it. Its promise is the contract's: r is the answer, and log' is what the call leaves of `log`.
--- A law words_.. is that of the call of exports_c, whose answer is a number: 0 or the refusal's. Of the call of its name in exports, which answers the refusal itself, the law is `of_a_result` or `of_a_check` of that one.
+-- A law words_.. is that of a call of exports_c, whose answer is a number: 0 or the refusal's. The call of the same name in exports answers the refusal itself, and its law follows from that one by `of_a_result`, or by `of_a_check` where nothing is written.
 use Prim.Native.Nat.{ℕ, ◌≤◌, ◌<◌, min}
 use mathlib.Core.Path.{◌≡◌, sym, ap, ◌∙◌}
 use mathlib.Core.List.{List, [], ◌∷◌}
@@ -16,10 +16,10 @@ use Rattle.units.specs.declared.Term.{Term}
 use Rattle.quorum.specs.Voters.{no_voters, made as made_set, set_of, voters_check}
 use Rattle.rules.specs.Majority.{falling}
 use Rattle.quorum.specs.Votes.{joint_result}
-use Rattle.quorum.specs.Half.{half_index, joined, numbers_result}
-use Rattle.quorum.specs.Majority.{committed_index, vote_result, plain_committed_index, plain_vote_result}
-use Rattle.quorum.specs.Joint.{one_set, config_check, is_singleton, contains_of, joint_ids, joint_committed_index, joint_vote_result, plain_joint_committed_index, plain_joint_vote_result}
-use Rattle.quorum.specs.Rows.{gathered, plain_check, value_for, ack_number, vote_number}
+use Rattle.quorum.specs.Half.{half_index, joined, value_in, numbers_result}
+use Rattle.quorum.specs.Majority.{committed_index, vote_result, committed_index_by, vote_result_by, plain_committed_index, plain_vote_result}
+use Rattle.quorum.specs.Joint.{one_set, config_check, is_singleton, contains_of, joint_ids, joint_committed_index, joint_vote_result, joint_committed_index_by, joint_vote_result_by, plain_joint_committed_index, plain_joint_vote_result}
+use Rattle.quorum.specs.Rows.{gathered, ids_of, values_of, plain_check, value_for, ack_number, vote_number}
 use Rattle.quorum.specs.declared.VoteResult.{VoteResult}
 use Rattle.quorum.specs.declared.half.Half.{Half}
 use Rattle.quorum.specs.declared.majority.Voters.{Voters}
@@ -82,7 +82,7 @@ two_slices a b x y = read_alike (λ l. (get_or l 0 [], get_or l 1 [])) a b _ _
 three_slices : {promised : Outcome} → OneOutcome (λ r (x, y, z). leaves r (x ∷ y ∷ z ∷ []) ≡ promised)
 three_slices a b x y = read_alike (λ l. (get_or l 0 [], get_or l 1 [], get_or l 2 [])) a b _ _
 
--- Where an answer is the refusal itself, and the promise speaks of its number: what is one outcome by the number is one by the refusal, since no two refusals have the same number, and none has 0.
+-- From a number to the refusal: a promise of the number that leaves no choice leaves none of the check whose number it is, since no two refusals have the same number, and none has 0.
 pub of_a_result : {B : Type 0} {P : ℕ → B → Type 0} → OneOutcome P → OneOutcome (λ (r : Check) x. P (refusal_of r) x)
 of_a_result one a b x y p q =
     let same = one (refusal_of a) (refusal_of b) x y p q in
@@ -149,6 +149,12 @@ majority_committed_index voters peers = one_answer
 pub majority_vote_result : (voters : Voters) (peers : List Peer) → OneAnswer (◌≡ vote_result voters peers)
 majority_vote_result voters peers = one_answer
 
+pub majority_committed_index_by : (voters : List ℕ) (rows : Check) (said : ℕ → ℕ) → OneAnswer (◌≡ committed_index_by voters rows said)
+majority_committed_index_by voters rows said = one_answer
+
+pub majority_vote_result_by : (voters : List ℕ) (rows : Check) (said : ℕ → ℕ) → OneAnswer (◌≡ vote_result_by voters rows said)
+majority_vote_result_by voters rows said = one_answer
+
 pub majority_committed_index_of : (voters : Voters) (rows : Rows) → OneAnswer (◌≡ plain_committed_index voters rows)
 majority_committed_index_of voters rows = one_answer
 
@@ -181,6 +187,12 @@ joint_committed_index_lem config peers = one_answer
 pub joint_vote_result_lem : (config : JointConfig) (peers : List Peer) → OneAnswer (◌≡ joint_vote_result config peers)
 joint_vote_result_lem config peers = one_answer
 
+pub joint_committed_index_by_lem : (incoming outgoing : List ℕ) (rows : Check) (said : ℕ → ℕ) → OneAnswer (◌≡ joint_committed_index_by incoming outgoing rows said)
+joint_committed_index_by_lem incoming outgoing rows said = one_answer
+
+pub joint_vote_result_by_lem : (incoming outgoing : List ℕ) (rows : Check) (said : ℕ → ℕ) → OneAnswer (◌≡ joint_vote_result_by incoming outgoing rows said)
+joint_vote_result_by_lem incoming outgoing rows said = one_answer
+
 pub joint_committed_index_of : (config : JointConfig) (rows : Rows) → OneAnswer (◌≡ plain_joint_committed_index config rows)
 joint_committed_index_of config rows = one_answer
 
@@ -208,6 +220,9 @@ rows_gather peers question = one_answer
 
 pub rows_checked : (self : Rows) → OneAnswer (◌≡ plain_check self)
 rows_checked self = one_answer
+
+pub rows_said : (rows : Rows) (id : ℕ) → OneAnswer (◌≡ value_in (ids_of rows) (values_of rows) id)
+rows_said rows id = one_answer
 
 pub rows_value : (peer : Peer) (question : Question) → OneAnswer (◌≡ value_for question peer)
 rows_value peer question = one_answer

@@ -9,12 +9,12 @@ use Rattle.units.specs.declared.Index.{Index}
 use Rattle.rules.specs.Count.{count}
 use Rattle.rules.specs.Majority.{kth_largest, falling}
 use Rattle.quorum.specs.Limits.{voter_limit, row_limit}
-use Rattle.quorum.specs.Rows.{nobody, ack_number, vote_number, rows_check, value_for, gathered, plain_check}
+use Rattle.quorum.specs.Rows.{nobody, ack_number, vote_number, rows_check, value_for, gathered, ids_of, values_of, plain_check}
 use Rattle.quorum.specs.Voters.{voters_check, set_of, no_voters, made}
 use Rattle.quorum.specs.Votes.{is_yes, is_missing, result_of, joint_result}
-use Rattle.quorum.specs.Half.{half_index, joined, numbers_result}
-use Rattle.quorum.specs.Majority.{index_unless, result_unless, acks_of, votes_of, committed_index, vote_result, plain_committed_index, plain_vote_result}
-use Rattle.quorum.specs.Joint.{one_set, config_check, joint_committed_index, joint_vote_result, plain_joint_committed_index, plain_joint_vote_result, is_singleton, contains_of, id_list, joint_ids}
+use Rattle.quorum.specs.Half.{half_index, joined, value_in, numbers_result}
+use Rattle.quorum.specs.Majority.{index_unless, result_unless, acks_of, votes_of, committed_index, vote_result, committed_index_by, vote_result_by, plain_committed_index, plain_vote_result}
+use Rattle.quorum.specs.Joint.{one_set, config_check, joint_committed_index, joint_vote_result, joint_committed_index_by, joint_vote_result_by, plain_joint_committed_index, plain_joint_vote_result, is_singleton, contains_of, id_list, joint_ids}
 use Rattle.quorum.specs.declared.VoteResult.{VoteResult}
 use Rattle.quorum.specs.declared.VoteResult.TheVariants as result
 use Rattle.quorum.specs.declared.half.Half.{Half}
@@ -48,6 +48,14 @@ ack_rows acks = gathered question.Index (acking acks)
 -- Rows with these votes, ids from 1 on, gathered for the vote.
 abbrev pub vote_rows : List (Option Bool) → Rows
 vote_rows votes = gathered question.Vote (voting votes)
+
+-- What rows say of an id that have these values, ids from 1 on.
+abbrev pub saying : List ℕ → ℕ → ℕ
+saying values = value_in (ids_from 1 (length values)) values
+
+-- And what such rows say where they are gathered.
+abbrev pub said_by : Rows → ℕ → ℕ
+said_by rows = value_in (ids_of rows) (values_of rows)
 
 -- Two rows of the id 1, which have acknowledged 4 and 6: broken (12).
 abbrev pub twice_one : List Peer
@@ -137,6 +145,14 @@ pub record WrongQuorum : Type 0 where
   pub majority_vote_result_pending : vote_result (voters_from 1 3) (voting (Some true ∷ Some true ∷ Some true ∷ [])) ≢ Ok result.Pending
   -- Four voters, two yes, two no: Won, with half of the votes. It is Lost.
   pub majority_vote_result_half : vote_result (voters_from 1 4) (voting (Some true ∷ Some true ∷ Some false ∷ Some false ∷ [])) ≢ Ok result.Won
+  -- Three voters, all at 5: 0. It is 5.
+  pub majority_committed_index_by_zero : committed_index_by (ids_from 1 3) fine (saying (5 ∷ 5 ∷ 5 ∷ [])) ≢ up_to 0
+  -- Three voters, all at 5, broken rows: 5, the check of the rows not asked. It is 12.
+  pub majority_committed_index_by_broken : committed_index_by (ids_from 1 3) (Err refusal.BrokenSet) (saying (5 ∷ 5 ∷ 5 ∷ [])) ≢ up_to 5
+  -- Four voters, two yes, two no: Won, with half of the votes. It is Lost.
+  pub majority_vote_result_by_half : vote_result_by (ids_from 1 4) fine (saying (1 ∷ 1 ∷ 2 ∷ 2 ∷ [])) ≢ Ok result.Won
+  -- The voter 1 twice, yes: Won. It is 12.
+  pub majority_vote_result_by_repeated : vote_result_by (1 ∷ 1 ∷ []) fine (saying (1 ∷ [])) ≢ Ok result.Won
   -- The voter 1, two rows of 1 at 4 and 6: 4, by the first row. It is 12.
   pub majority_committed_index_of_repeated : plain_committed_index (voters_from 1 1) (gathered question.Index twice_one) ≢ up_to 4
   -- Voters 3, 4, 5, rows of 1 to 5 at 9, 9, 9, 2, 2: 9, where each voter reads a row by its place and not by its id. It is 2.
@@ -178,7 +194,15 @@ pub record WrongQuorum : Type 0 where
   pub joint_vote_result_one_half : joint_vote_result three_and_two (voting (Some true ∷ Some true ∷ Some true ∷ Some true ∷ [])) ≢ Ok result.Won
   -- Incoming one yes and two missing, outgoing all no: Pending, the incoming half waited for. It is Lost.
   pub joint_vote_result_waits : joint_vote_result three_and_two (voting (Some true ∷ None ∷ None ∷ Some false ∷ Some false ∷ [])) ≢ Ok result.Pending
-  -- The same four, over gathered rows.
+  -- Incoming at 5, 4, 3, outgoing at 3, 8: 4, the larger of 4 and 3.
+  pub joint_committed_index_by_larger : joint_committed_index_by (ids_from 1 3) (ids_from 4 2) fine (saying (5 ∷ 4 ∷ 3 ∷ 3 ∷ 8 ∷ [])) ≢ up_to 4
+  -- Incoming at 5, 4, 3, outgoing 4 twice, at 3: 3. It is 12.
+  pub joint_committed_index_by_repeated : joint_committed_index_by (ids_from 1 3) (4 ∷ 4 ∷ []) fine (saying (5 ∷ 4 ∷ 3 ∷ 3 ∷ [])) ≢ up_to 3
+  -- Incoming all yes, outgoing one yes and one missing: Won, the outgoing half not waited for. It is Pending.
+  pub joint_vote_result_by_one_half : joint_vote_result_by (ids_from 1 3) (ids_from 4 2) fine (saying (1 ∷ 1 ∷ 1 ∷ 1 ∷ [])) ≢ Ok result.Won
+  -- Incoming one yes and two missing, outgoing all no: Pending, the incoming half waited for. It is Lost.
+  pub joint_vote_result_by_waits : joint_vote_result_by (ids_from 1 3) (ids_from 4 2) fine (saying (1 ∷ 0 ∷ 0 ∷ 2 ∷ 2 ∷ [])) ≢ Ok result.Pending
+  -- The four of the questions by the lent rows, over gathered rows.
   pub joint_committed_index_of_larger : plain_joint_committed_index three_and_two (ack_rows (5 ∷ 4 ∷ 3 ∷ 3 ∷ 8 ∷ [])) ≢ up_to 4
   pub joint_committed_index_of_empty : plain_joint_committed_index three_voters (ack_rows (5 ∷ 4 ∷ 3 ∷ [])) ≢ up_to 0
   pub joint_vote_result_of_one_half : plain_joint_vote_result three_and_two (vote_rows (Some true ∷ Some true ∷ Some true ∷ Some true ∷ [])) ≢ Ok result.Won
@@ -209,6 +233,10 @@ pub record WrongQuorum : Type 0 where
   pub rows_checked_repeated : plain_check (gathered question.Index twice_one) ≢ fine
   -- 65 rows: fine, by those that the array has.
   pub rows_checked_too_many : plain_check (ack_rows (replicate (suc row_limit) 5)) ≢ fine
+  -- Rows of 1 and 2 at 7 and 5, asked for 2: 7, of the row before it. It is 5.
+  pub rows_said_by_place : said_by (ack_rows (7 ∷ 5 ∷ [])) 2 ≢ 7
+  -- Rows of 1 and 2 at 7 and 5, asked for 3: 5, of the last row. It is 0.
+  pub rows_said_of_nobody : said_by (ack_rows (7 ∷ 5 ∷ [])) 3 ≢ 5
   -- The row 65 at 7, yes, asked for the index: 1, its vote.
   pub rows_value_vote : value_for question.Index somebody ≢ vote_number somebody.vote
   -- The row 65 at 7, yes, asked for the vote: 65, its id.
@@ -232,7 +260,7 @@ pub record WrongQuorum : Type 0 where
   pub table_with_stays_full : overfull_table ≢ full_table
   -- An overfull table: the 64 rows that it has. It is 12.
   pub table_rows_too_many : rows_lent overfull_table ≢ Ok full_table.peers
-  -- Three rows, of which one is counted: all three, an unused row read.
+  -- Three rows, of which one is counted: all three, two unused rows too.
   pub table_rows_unused : rows_lent (table_with 1 (acking (5 ∷ 2 ∷ 5 ∷ []))) ≢ Ok (acking (5 ∷ 2 ∷ 5 ∷ []))
   -- Three voters at 5 in an overfull table: 5. It is 12.
   pub table_committed_index_too_many : table_committed_index (voters_from 1 3) overfull_table ≢ up_to 5

@@ -8,4 +8,5 @@ pub mod Sorting
 pub mod Listing
 pub mod Values
 pub mod Answers
+pub mod Asked
 pub mod Gathered

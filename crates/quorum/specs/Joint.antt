@@ -1,12 +1,12 @@
 -- The joint configuration (joint.rs): two voter sets, incoming and outgoing. A reader must know: each question is asked of both halves, and a broken half or broken rows are refusal 12.
-use Rattle.std.specs.Prelude.{ℕ, ◌+◌, ◌&&◌, ◌||◌, cond, List, [], ◌∷◌, ◌++◌, length, take, set, eqb, Ok, Bool}
+use Rattle.std.specs.Prelude.{ℕ, ◌+◌, ◌&&◌, ◌||◌, cond, List, [], ◌∷◌, ◌++◌, length, take, map, set, eqb, Ok, Bool}
 use Rattle.units.specs.Refusals.{both_checks, unless, Answer, Check}
 use Rattle.units.specs.declared.Index.{Index}
 use Rattle.rules.specs.Majority.{falling}
 use Rattle.quorum.specs.Limits.{id_limit}
 use Rattle.quorum.specs.Ids.{has, padded}
 use Rattle.quorum.specs.Rows.{rows_check, plain_check}
-use Rattle.quorum.specs.Voters.{voters_of, voters_check, no_voters}
+use Rattle.quorum.specs.Voters.{voters_of, voters_check, set_of, no_voters}
 use Rattle.quorum.specs.Votes.{result_of, joint_result}
 use Rattle.quorum.specs.Half.{half_index, joined, numbers_result}
 use Rattle.quorum.specs.Majority.{index_unless, result_unless, acks_of, votes_of, plain_values}
@@ -32,6 +32,14 @@ joint_committed_index c peers = index_unless (both_checks (config_check c) (rows
 -- THE PROMISE of `vote_result`. 01, Joint: "Won if Won in both, Lost if Lost in either, else Pending."
 unfoldable pub joint_vote_result : JointConfig → List Peer → Answer VoteResult
 joint_vote_result c peers = result_unless (both_checks (config_check c) (rows_check peers)) (joint_result (result_of (votes_of peers c.incoming)) (result_of (votes_of peers c.outgoing)))
+
+-- THE PROMISE of `committed_index_by`: as `committed_index`, of sets as lists of ids, by whatever holds the rows: its check, and what it says of an id.
+unfoldable pub joint_committed_index_by : List ℕ → List ℕ → Check → (ℕ → ℕ) → Answer (Index × Bool)
+joint_committed_index_by incoming outgoing rows said = index_unless (both_checks (both_checks (voters_check (set_of incoming)) (voters_check (set_of outgoing))) rows) (joined (half_index (map said incoming)) (half_index (map said outgoing)))
+
+-- THE PROMISE of `vote_result_by`: as `vote_result`, in the same way.
+unfoldable pub joint_vote_result_by : List ℕ → List ℕ → Check → (ℕ → ℕ) → Answer VoteResult
+joint_vote_result_by incoming outgoing rows said = result_unless (both_checks (both_checks (voters_check (set_of incoming)) (voters_check (set_of outgoing))) rows) (joint_result (numbers_result (map said incoming)) (numbers_result (map said outgoing)))
 
 -- THE PROMISE of `committed_index_of`: as `committed_index`, "over plain values".
 unfoldable pub plain_joint_committed_index : JointConfig → Rows → Answer (Index × Bool)

@@ -4,7 +4,7 @@ use Rattle.units.specs.Units.{index_of}
 use Rattle.units.specs.Refusals.{both_checks, unless, Answer, Check}
 use Rattle.units.specs.declared.Index.{Index}
 use Rattle.quorum.specs.Rows.{row_of, ack_number, rows_check, ids_of, values_of, plain_check}
-use Rattle.quorum.specs.Voters.{voters_of, voters_check}
+use Rattle.quorum.specs.Voters.{voters_of, voters_check, set_of}
 use Rattle.quorum.specs.Votes.{result_of}
 use Rattle.quorum.specs.Half.{half_index, value_in, numbers_result}
 use Rattle.quorum.specs.declared.VoteResult.{VoteResult}
@@ -40,6 +40,14 @@ committed_index v peers = index_unless (both_checks (voters_check v) (rows_check
 -- THE PROMISE of `vote_result`. 01, Majority: "an empty set is Won; otherwise Won if yes reaches the quorum, else Pending if yes plus missing reaches it, else Lost."
 unfoldable pub vote_result : Voters → List Peer → Answer VoteResult
 vote_result v peers = result_unless (both_checks (voters_check v) (rows_check peers)) (result_of (votes_of peers v))
+
+-- THE PROMISE of `committed_index_by`: as `committed_index`, of a set as a list of ids, by whatever holds the rows: its check, and what it says of an id.
+unfoldable pub committed_index_by : List ℕ → Check → (ℕ → ℕ) → Answer (Index × Bool)
+committed_index_by ids rows said = index_unless (both_checks (voters_check (set_of ids)) rows) (half_index (map said ids))
+
+-- THE PROMISE of `vote_result_by`: as `vote_result`, in the same way.
+unfoldable pub vote_result_by : List ℕ → Check → (ℕ → ℕ) → Answer VoteResult
+vote_result_by ids rows said = result_unless (both_checks (voters_check (set_of ids)) rows) (numbers_result (map said ids))
 
 -- What the question reads of each voter of a set, by gathered rows. 01, "Where each language form goes": "thin calls above a core over plain values". This, and what follows, is the core.
 abbrev pub plain_values : Rows → Voters → List ℕ

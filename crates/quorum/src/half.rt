@@ -9,7 +9,7 @@ ghost use Rattle.quorum.specs.Half.{half_index, joined as joined_of, numbers_res
 use crate::VoteResult;
 use units::smaller;
 
-// A committed index, and whether no voter had a say in it.
+// A committed index, and whether no voter had a say in it: document 01 answers both, "(u64::MAX, true)".
 #[derive(Clone, Copy, Debug, PartialEq, Eq)]
 pub struct Half {
     pub index: u64,

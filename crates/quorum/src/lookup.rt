@@ -1,31 +1,41 @@
-// What each voter said, by the gathered rows.
-ghost use Rattle.std.specs.Prelude.{◌≡◌, ◌≤◌, take};
-ghost use Rattle.quorum.specs.Limits.{voter_limit, row_limit};
-ghost use Rattle.quorum.specs.Half.{value_in};
-ghost use Rattle.quorum.specs.Majority.{plain_values};
+// What each voter said, by what holds the rows, and what one half says by that.
+ghost use Rattle.std.specs.Prelude.{◌≡◌, ◌≤◌, length, map, take};
+ghost use Rattle.quorum.specs.Limits.{voter_limit};
+ghost use Rattle.quorum.specs.Half.{half_index, numbers_result};
 
+use crate::VoteResult;
+use crate::half::{Half, index_of, result_of};
 use crate::majority::Voters;
-use crate::rows::Rows;
+use crate::rows::PeerRows;
 
-// The value beside `id`, 0 where no row has it.
-fn found(ids: &[u64], values: &[u64], id: u64) -> u64
-    ensures { result ≡ value_in ids.now values.now id }
+// What each voter said, in the voters' order, at the front of `all`.
+fn look_up<R: PeerRows>(all: &mut [u64], voters: &[u64], rows: &R)
+    requires { length voters.now ≤ length all.old }
+    ensures { take (length voters.now) all.new ≡ map (R.said rows.now) voters.now }
 {
-    let at = crate::ids::position(ids, id);
-    values.get(at).copied().unwrap_or(0)
+    for (i, id) in voters.iter().enumerate() {
+        all[i] = rows.said(*id);
+    }
 }
 
-// The value of each voter, in the voters' order: the words at the front.
-pub fn looked_up(voters: Voters, rows: &Rows) -> [u64; Voters::LIMIT]
-    requires few { voters.count ≤ voter_limit }
-    requires few_rows { rows.now.count ≤ row_limit }
-    ensures { take voters.count result ≡ plain_values rows.now voters }
+// How far one half has committed.
+pub fn half_index<R: PeerRows>(voters: &[u64], rows: &R) -> Half
+    requires { length voters.now ≤ voter_limit }
+    ensures { result ≡ half_index (map (R.said rows.now) voters.now) }
 {
-    let ids = &rows.ids[..rows.count];
-    let values = &rows.values[..rows.count];
-    let mut all = [0u64; Voters::LIMIT];
-    for (i, id) in voters.ids[..voters.count].iter().enumerate() {
-        all[i] = found(ids, values, *id);
-    }
-    all
+    let count = voters.len();
+    let mut acks = [0u64; Voters::LIMIT];
+    look_up(&mut acks, voters, rows);
+    index_of(&mut acks[..count])
+}
+
+// How the vote of one half stands.
+pub fn half_result<R: PeerRows>(voters: &[u64], rows: &R) -> VoteResult
+    requires { length voters.now ≤ voter_limit }
+    ensures { result ≡ numbers_result (map (R.said rows.now) voters.now) }
+{
+    let count = voters.len();
+    let mut votes = [0u64; Voters::LIMIT];
+    look_up(&mut votes, voters, rows);
+    result_of(&votes[..count])
 }

@@ -1,17 +1,16 @@
 // A set of ids that uses majority quorums to make decisions (majority.rs).
-ghost use Rattle.std.specs.Prelude.{◌≡◌};
-ghost use Rattle.quorum.specs.Voters.{voters_check, set_of, no_voters, made};
-ghost use Rattle.quorum.specs.Majority.{committed_index, vote_result, plain_committed_index, plain_vote_result};
+ghost use Rattle.std.specs.Prelude.{◌≡◌, MatchResult, Err};
+ghost use Rattle.quorum.specs.Voters.{voters_check, voters_of, set_of, no_voters, made};
+ghost use Rattle.quorum.specs.Majority.{committed_index, vote_result, committed_index_by, vote_result_by, plain_committed_index, plain_vote_result};
 
 use crate::VoteResult;
-use crate::half::{index_of, result_of};
-use crate::lookup::looked_up;
-use crate::rows::{Peer, Question, Rows, gather};
+use crate::lookup::{half_index, half_result};
+use crate::rows::{Peer, PeerRows, Question, Rows, gather};
 use units::Index;
 use units::refusal::Refusal;
 use units::words::copy_at;
 
-// The voters: the first `count` ids, each once.
+// The voters: the first `count` ids, each once. An array and a count, since there is no heap, and since a broken set is a value that is asked and refused (`voters_checked_repeated`).
 #[derive(Clone, Copy)]
 pub struct Voters {
     pub ids: [u64; Voters::LIMIT],
@@ -55,6 +54,17 @@ impl Voters {
     {
         crate::ids::checked(&self.ids, self.count)
     }
+
+    // The voters' ids, which are checked as the set is: 12 where the count is over the limit.
+    #[tactic(auto, using(crate::proofs::Asked::over, crate::proofs::Asked::checked_as_ids))]
+    pub(crate) fn listed(&self) -> Result<&[u64], Refusal>
+        ensures { MatchResult result (λ ids. (ids.now ≡ voters_of self.now) × (voters_check self.now ≡ voters_check (set_of ids.now))) (λ e. voters_check self.now ≡ Err e) }
+    {
+        if Voters::LIMIT < self.count {
+            return Err(Refusal::BrokenSet);
+        }
+        Ok(&self.ids[..self.count])
+    }
 }
 
 // 12 of the set of these ids.
@@ -67,28 +77,41 @@ pub fn ids_checked(ids: &[u64]) -> Result<(), Refusal>
     crate::ids::checked(ids, ids.len())
 }
 
-// How far a majority has acknowledged, over gathered rows: the core of `committed_index`.
-// It and `vote_result_of` share the look-up; a core for both, here and in joint.rt, would need a trait that is longer than the four bodies.
-#[tactic(auto, unfolding(crate::specs::Majority::plain_committed_index))]
-pub fn committed_index_of(voters: Voters, rows: Rows) -> Result<(Index, bool), Refusal>
-    ensures { result ≡ plain_committed_index voters rows }
+// How far a majority has acknowledged, by whatever holds the rows.
+#[tactic(auto, unfolding(crate::specs::Majority::committed_index_by))]
+pub fn committed_index_by<R: PeerRows>(voters: &[u64], rows: &R) -> Result<(Index, bool), Refusal>
+    ensures { result ≡ committed_index_by voters.now (R.check rows.now) (R.said rows.now) }
 {
-    voters.checked()?;
+    ids_checked(voters)?;
     rows.checked()?;
-    let mut acks = looked_up(voters, &rows);
-    let half = index_of(&mut acks[..voters.count]);
+    let half = half_index(voters, rows);
     Ok((Index(half.index), half.free))
 }
 
+// How the vote stands, by whatever holds the rows.
+#[tactic(auto, unfolding(crate::specs::Majority::vote_result_by))]
+pub fn vote_result_by<R: PeerRows>(voters: &[u64], rows: &R) -> Result<VoteResult, Refusal>
+    ensures { result ≡ vote_result_by voters.now (R.check rows.now) (R.said rows.now) }
+{
+    ids_checked(voters)?;
+    rows.checked()?;
+    Ok(half_result(voters, rows))
+}
+
+// How far a majority has acknowledged, over gathered rows: the core of `committed_index`.
+#[tactic(auto, unfolding(crate::specs::Majority::committed_index_by, crate::specs::Majority::plain_committed_index))]
+pub fn committed_index_of(voters: Voters, rows: Rows) -> Result<(Index, bool), Refusal>
+    ensures { result ≡ plain_committed_index voters rows }
+{
+    committed_index_by(voters.listed()?, &rows)
+}
+
 // How the vote stands, over gathered rows: the core of `vote_result`.
-#[tactic(auto, unfolding(crate::specs::Majority::plain_vote_result))]
+#[tactic(auto, unfolding(crate::specs::Majority::vote_result_by, crate::specs::Majority::plain_vote_result))]
 pub fn vote_result_of(voters: Voters, rows: Rows) -> Result<VoteResult, Refusal>
     ensures { result ≡ plain_vote_result voters rows }
 {
-    voters.checked()?;
-    rows.checked()?;
-    let votes = looked_up(voters, &rows);
-    Ok(result_of(&votes[..voters.count]))
+    vote_result_by(voters.listed()?, &rows)
 }
 
 // How far a majority has acknowledged, by the lent rows.

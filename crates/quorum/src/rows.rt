@@ -1,6 +1,8 @@
 // Peer rows: what each peer has acknowledged and how it has voted, lent as a slice, or gathered as plain numbers.
-ghost use Rattle.std.specs.Prelude.{◌≡◌};
-ghost use Rattle.quorum.specs.Rows.{ack_number, vote_number, value_for, gathered, plain_check};
+ghost use Rattle.std.specs.Prelude.{◌≡◌, ℕ};
+ghost use Rattle.units.specs.Refusals.{Check};
+ghost use Rattle.quorum.specs.Rows.{ack_number, vote_number, value_for, gathered, plain_check, ids_of, values_of};
+ghost use Rattle.quorum.specs.Half.{value_in};
 
 use units::Index;
 use units::refusal::Refusal;
@@ -21,7 +23,21 @@ pub enum Question {
     Vote,
 }
 
-// The rows as plain numbers: the ids, and beside each what the question reads of its row.
+// What holds peer rows, for one question: it says what the row of an id says, 0 where there is none (AckedIndexer of the crate).
+pub trait PeerRows {
+    ghost check: { Self → Check };
+
+    ghost said: { Self → ℕ → ℕ };
+
+    // 12 where the rows are too many, or an id stands twice.
+    fn checked(&self) -> Result<(), Refusal>
+        ensures { result ≡ check self.now };
+
+    fn said(&self, id: u64) -> u64
+        ensures { result ≡ said self.now id };
+}
+
+// The rows as plain numbers: the ids, and beside each what the question reads of its row. Two arrays and a count, as `gathered` promises them, which may also be too many (`rows_checked_too_many`).
 #[derive(Clone, Copy)]
 pub struct Rows {
     pub ids: [u64; Rows::LIMIT],
@@ -41,6 +57,22 @@ impl Rows {
     }
 }
 
+impl PeerRows for Rows {
+    ghost check = { plain_check };
+
+    ghost said = { λ rows. value_in (ids_of rows) (values_of rows) };
+
+    fn checked(&self) -> Result<(), Refusal> {
+        Rows::checked(*self)
+    }
+
+    fn said(&self, id: u64) -> u64 {
+        let end = shorter(self.count, Rows::LIMIT);
+        let at = crate::ids::position(&self.ids[..end], id);
+        self.values[..end].get(at).copied().unwrap_or(0)
+    }
+}
+
 // A missing acknowledgement counts as 0.
 pub fn ack_number(ack: Option<Index>) -> u64
     ensures { result ≡ ack_number ack }
@@ -48,7 +80,7 @@ pub fn ack_number(ack: Option<Index>) -> u64
     ack.map_or(0, |index| index.0)
 }
 
-// 0 missing, 1 yes, 2 no.
+// 0 missing, 1 yes, 2 no: numbers, as `gathered` promises the votes.
 pub fn vote_number(vote: Option<bool>) -> u64
     ensures { result ≡ vote_number vote }
 {
@@ -59,7 +91,7 @@ pub fn vote_number(vote: Option<bool>) -> u64
     }
 }
 
-// What a question reads of a row.
+// What a question reads of a row: one of two columns, as `value_for` promises.
 pub fn value(peer: Peer, question: Question) -> u64
     ensures { result ≡ value_for question peer }
 {

@@ -52,6 +52,7 @@ pub enum Bounds {
     Pending { low: Index, high: Index },
 }
 
+// Each call is lent the stores one by one, since its promise and C name them so; inside they go with the log as `Held`.
 impl Log {
     // Words of a record in a store: term, body.
     pub const WORDS: usize = 2;
@@ -170,7 +171,6 @@ impl Log {
     }
 
     // AppendEntries at the receiver: the answer, the log after it, and the pending store.
-    #[tactic(auto, using(crate::proofs::Appending::answer_cut))]
     pub fn maybe_append(
         self,
         settled: &[u64],

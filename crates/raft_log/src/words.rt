@@ -20,7 +20,7 @@ pub fn store_term(store: &[u64], k: u64) -> u64
     store[at]
 }
 
-// How many whole records a run has.
+// How many whole records a run has: `room` by the other width, which a const parameter would put at each of the calls.
 pub fn run_count(run: &[u64]) -> u64
     ensures { result ≡ run_count run.now }
 {
@@ -75,6 +75,7 @@ pub fn same_terms(store: &[u64], at: u64, run: &[u64], k: u64, n: u64) -> u64
     requires in_run { k + n ≤ run_count run.now }
     ensures { result ≡ first_from (other_term store.now at run.now k) 0 n }
 {
+    // Not `find`, as in `first_zero`: an append would run up to 11 instructions more.
     for i in 0..n {
         if run_term(run, k + i) != store_term(store, at + i) {
             return i;

@@ -1,5 +1,6 @@
 #![tactic(auto)]
 // Replays a list of calls on the inflight window.
+// A program of its own, since the gate runs each program with one list.
 use std::io;
 
 fn main(rt: HostRuntime) -> io::Result<()> {

@@ -4,8 +4,9 @@ use mathlib.Core.Logic.{⊎_elim}
 use mathlib.Core.List.{List, [], ◌∷◌, append_assoc}
 use Prim.Native.Nat.{ℕ, zero, suc, ◌+◌, ◌-◌, ◌≤◌, ◌<◌, min}
 use native.Mathlib.Omega.{arith}
+use native.Mathlib.Nat.{add-zero}
 use borrow.Rule.Slice.PartMut.{put_mid}
-use lib.ListN.{length, set, take, length-set, length-take}
+use lib.ListN.{length, set, take, drop, length-set, length-take}
 use lib.Seq.{sets, sets-eq, drop-drop}
 use Rattle.units.proofs.Lists.{sets_out}
 use Rattle.units.proofs.Numbers.{below_or_not}
@@ -30,3 +31,11 @@ module _ (to : List ℕ) (at : ℕ) (from : List ℕ) (start count : ℕ) (begin
       let n : length (take count from) ≡ count = omega (arith, length-take count from) in
       let k : start + count - start ≡ count = omega arith in
       rw (e, k, stored, sets-eq (take count from) to start (omega arith), n, append_assoc, drop-drop)
+
+-- A copy word by word, as it was before the library's: what it keeps, and that it does where it begins (TRUST.md names both). Once the words that are left, from the i-th on, are stored too, `to` is what it is to be.
+pub record Copying (to₀ : List ℕ) (at : ℕ) (from to : List ℕ) (i : ℕ) : Type 0 where
+  pub left : sets to (at + i) (drop i from) ≡ sets to₀ at from
+  pub long : length to ≡ length to₀
+
+pub copy_start : (to : List ℕ) (at : ℕ) (from : List ℕ) → Copying to at from to 0
+copy_start to at from = record { left = ap (λ (k : ℕ). sets to k from) (add-zero at); long = refl }

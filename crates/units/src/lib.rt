@@ -22,7 +22,7 @@ impl Index {
     }
 }
 
-// A leader's term.
+// A leader's term. Its own type beside `Index`, as document 01 asks, though the two differ in the name alone.
 #[derive(Clone, Copy, Debug, PartialEq, Eq, PartialOrd, Ord)]
 pub struct Term(pub u64);
 
@@ -34,7 +34,7 @@ impl Term {
     }
 }
 
-// Here, since the quorums and the log both take the smaller of two indices.
+// The smaller of two indices: the library's `min`, under the name that its promise and edit have (PROMISES.md).
 pub fn smaller(a: u64, b: u64) -> u64
     ensures { result ≡ min a b }
 {

@@ -9,31 +9,31 @@ use std::fmt;
 #[derive(Clone, Copy, Debug, PartialEq, Eq)]
 pub enum Refusal {
     // State rules or store lengths broken.
-    BrokenState,
+    BrokenState = 1,
     // A run that is not of whole records, or whose indices don't rise by one, or that ends above the limit.
-    MisnumberedRun,
+    MisnumberedRun = 2,
     // A zero term in a run, or in settled at set-up.
-    ZeroTerm,
+    ZeroTerm = 3,
     // Previous term 0 and an index outside the log.
-    OutsideLog,
+    OutsideLog = 4,
     // The previous record doesn't match.
-    Mismatch,
+    Mismatch = 5,
     // A conflict, or the start of an append, at or below committed.
-    CutsCommitted,
+    CutsCommitted = 6,
     // No room.
-    NoRoom,
+    NoRoom = 7,
     // An argument beyond what the log or its bounds allow.
-    OutOfRange,
+    OutOfRange = 8,
     // A low bound below the first index.
-    BelowFirst,
+    BelowFirst = 9,
     // Nothing is pending, or another last record.
-    NotPending,
+    NotPending = 10,
     // A full window.
-    WindowFull,
+    WindowFull = 11,
     // Over the limit of voters or rows, or a repeated id among them.
-    BrokenSet,
+    BrokenSet = 12,
     // Window state broken.
-    BrokenWindow,
+    BrokenWindow = 13,
 }
 
 impl Refusal {
@@ -41,21 +41,7 @@ impl Refusal {
     pub fn number(self) -> u64
         ensures { result ≡ number_of self }
     {
-        match self {
-            Refusal::BrokenState => 1,
-            Refusal::MisnumberedRun => 2,
-            Refusal::ZeroTerm => 3,
-            Refusal::OutsideLog => 4,
-            Refusal::Mismatch => 5,
-            Refusal::CutsCommitted => 6,
-            Refusal::NoRoom => 7,
-            Refusal::OutOfRange => 8,
-            Refusal::BelowFirst => 9,
-            Refusal::NotPending => 10,
-            Refusal::WindowFull => 11,
-            Refusal::BrokenSet => 12,
-            Refusal::BrokenWindow => 13,
-        }
+        self as u64
     }
 }
 

@@ -2,7 +2,7 @@
 ghost use Rattle.std.specs.Prelude.{◌≡◌, min};
 ghost use Rattle.std.proofs.lemmas.List.Edits.{sets};
 
-// The smaller of two lengths.
+// The smaller of two lengths: the library's `min`, under the name that its promise and edit have (PROMISES.md).
 pub fn shorter(a: usize, b: usize) -> usize
     ensures { result ≡ min a b }
 {

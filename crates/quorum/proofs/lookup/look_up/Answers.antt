@@ -1,8 +1,7 @@
 use Rattle.std.proofs.Common.{◌≡◌, ℕ, ◌+◌, ◌<◌, List, [], ◌∷◌, ◌++◌, length, get_or, set, take, map, add-one, sym, ap, ◌∙◌, arith}
 use Rattle.std.proofs.Math.Seq.{take-length, take-suc, take-suc-set}
 use mathlib.Core.List.{map-append}
-use Rattle.exports.specs.Rows.{read_of}
-use Rattle.exports.proofs.halves.look_up.Goals as goal
+use Rattle.quorum.proofs.lookup.look_up.Goals as goal
 
 -- One turn writes what f says of the next voter; after the last turn that of each voter stands at the front.
 module _ (f : ℕ → ℕ) (all voters : List ℕ) (i : ℕ) (front : take i all ≡ map f (take i voters)) where
@@ -19,7 +18,7 @@ module _ (f : ℕ → ℕ) (all voters : List ℕ) (i : ℕ) (front : take i all
   all_said e = ap (λ (k : ℕ). take k all) (sym e) ∙ front ∙ ap (λ (k : ℕ). map f (take k voters)) e ∙ ap (map f) (take-length voters)
 
 pub loop-i-preserved : goal.loop-i-preserved
-loop-i-preserved c = one_more (read_of c.args.question c.args.words.now) c.loop-i.all c.args.voters.now c.loop-i.i c.loop-i.invariant (omega arith) (omega arith) c.found.result c.found.ensures
+loop-i-preserved g c = one_more (g.R.PeerRows.said c.args.rows.now) c.loop-i.all c.args.voters.now c.loop-i.i c.loop-i.invariant (omega arith) (omega arith) c.said.result c.said.ensures
 
 pub returns : goal.returns
-returns c = all_said (read_of c.args.question c.args.words.now) c.loop-i.all c.args.voters.now c.loop-i.i c.loop-i.invariant (omega arith)
+returns g c = all_said (g.R.PeerRows.said c.args.rows.now) c.loop-i.all c.args.voters.now c.loop-i.i c.loop-i.invariant (omega arith)
