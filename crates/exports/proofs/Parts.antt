@@ -10,6 +10,7 @@ use lib.ListN.{length, take, drop}
 use borrow.Author.Tests.{ltb-true, ltb-false, leb-false, not-false}
 use Rattle.std.specs.Prelude.{Ok, Err}
 use Rattle.units.specs.Refusals.{Answer, number_of}
+use Rattle.units.specs.declared.refusal.Refusal.{Refusal}
 use Rattle.units.specs.declared.refusal.Refusal.TheVariants as refusal
 use Rattle.units.proofs.Cond.{either_end}
 use Rattle.raft_log.specs.declared.Log.{Log}
@@ -32,6 +33,9 @@ module _ (l : Log) (settled pending : List ℕ) where
   abbrev Fair : Answer Bounds → Type 0
   Fair said = NamesHeld said l settled pending
 
+  refuses : (r : Refusal) → Fair (Err r)
+  refuses r z = let over = nonzero r in omega arith
+
   module _ (good : Good l settled pending) (low high : ℕ) where
     in_store_lem : l.start.0 < low → low ≤ high → high ≤ last_of l + 1 → Fair (in_store l low high)
     unfolding in_store
@@ -49,13 +53,13 @@ module _ (l : Log) (settled pending : List ℕ) where
     in_range : Fair (slice_in l low high)
     unfolding slice_in
     in_range =
-        either_end Fair (ltb high low) (λ _. tt)
-        (λ a. either_end Fair (leb low l.start.0) (λ _. tt)
-        (λ b. either_end Fair (ltb (last_of l + 1) high) (λ _. tt)
+        either_end Fair (ltb high low) (λ _. refuses refusal.OutOfRange)
+        (λ a. either_end Fair (leb low l.start.0) (λ _. refuses refusal.BelowFirst)
+        (λ b. either_end Fair (ltb (last_of l + 1) high) (λ _. refuses refusal.OutOfRange)
         (λ d. in_store_lem (leb-false low l.start.0 b) (ltb-false high low a) (ltb-false (last_of l + 1) high d))))
 
   unless_broken : (said : Answer Bounds) → (Good l settled pending → Fair said) → Fair (cond (broken l settled pending) (Err refusal.BrokenState) said)
-  unless_broken said fair = either_end Fair (broken l settled pending) (λ _. tt) (λ b. fair (ok_good l settled pending (not-false _ b)))
+  unless_broken said fair = either_end Fair (broken l settled pending) (λ _. refuses refusal.BrokenState) (λ b. fair (ok_good l settled pending (not-false _ b)))
 
   pub slice_sound : (low high : ℕ) → Fair (slice_bounds l settled pending low high)
   unfolding slice_bounds

@@ -1,7 +1,7 @@
 -- The exported calls that only read the log. A reader must know: each is the call of crate raft_log on the log whose state the slice `log` begins with, and writes `answer` alone.
 -- The result is 0 or the refusal's number. A refusal leaves `answer` as it was.
-use Rattle.std.specs.Prelude.{ℕ, ◌+◌, ◌-◌, ◌*◌, ◌≤◌, true, false, cond, Option, Some, None, Ok, Err, List, [], ◌∷◌, eqb, get_or, take, drop}
-use Rattle.units.specs.Refusals.{Answer}
+use Rattle.std.specs.Prelude.{ℕ, ◌≡◌, ◌+◌, ◌-◌, ◌*◌, ◌≤◌, true, false, cond, Option, Some, None, Ok, Err, List, [], ◌∷◌, eqb, get_or, take, drop}
+use Rattle.units.specs.Refusals.{Answer, number_of}
 use Rattle.units.specs.declared.Index.{Index}
 use Rattle.units.specs.declared.Term.{Term}
 use Rattle.raft_log.specs.Words.{record_words, room}
@@ -114,9 +114,9 @@ pub record StoreHolds (store : List ℕ) (first low high : ℕ) : Type 0 where
   pub order : low ≤ high
   pub below : high - first ≤ room store
 
--- What is so of every answer of the three calls (proofs/Parts.antt): the store that it names "holds it". A refusal names none.
+-- What is so of every answer of the three calls (proofs/Parts.antt): the store that it names "holds it", and 0 is no refusal's number.
 abbrev pub NamesHeld : Answer Bounds → Log → List ℕ → List ℕ → Type 0
 NamesHeld (Ok bounds.Empty) l settled pending = Unit {0}
 NamesHeld (Ok (bounds.Settled low high)) l settled pending = StoreHolds settled (l.start.0 + 1) low.0 high.0
 NamesHeld (Ok (bounds.Pending low high)) l settled pending = StoreHolds pending l.offset.0 low.0 high.0
-NamesHeld (Err r) l settled pending = Unit {0}
+NamesHeld (Err r) l settled pending = number_of r ≡ 0 → ⊥

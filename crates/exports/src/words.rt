@@ -45,7 +45,7 @@ pub fn flag(b: bool) -> u64
     u64::from(b)
 }
 
-// The log whose state a slice begins with.
+// The log whose state a slice begins with. The slices are C's, so their lengths are asked of them here and where they are written.
 #[tactic(auto, unfolding(crate::specs::Words::log_from))]
 pub fn load(log: &[u64]) -> Log
     requires { log_length ≤ length log.now }

@@ -1,4 +1,4 @@
-// The questions of one voter set, on rows by value.
+// The questions of one voter set, on rows by value. Each has a promise and a law of its own (PROMISES.md).
 ghost use Rattle.std.specs.Prelude.{◌≡◌};
 ghost use Rattle.peer_tables.specs.Table.{table_committed_index, table_vote_result};
 

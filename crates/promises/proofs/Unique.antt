@@ -1,6 +1,6 @@
 -- Two answers that meet a promise are equal: a law for every public call of every library crate, in the order and under the headings of docs/PROMISES.md, each by `one_answer`.
 -- A law takes what the call takes, a lent slice as the words in it. Its promise is the contract's: r is the answer, and log' is what the call leaves of `log`.
--- A law words_.. is that of a call of exports_c, whose answer is a number: 0 or the refusal's. The call of the same name in exports answers the refusal itself, and its law follows from that one by `of_a_result`, or by `of_a_check` where nothing is written.
+-- A law words_.. is that of a call of exports_c, whose answer is a number: 0 or the refusal's. The call of the same name in exports answers the refusal itself: its law, result_.., is that one by `of_a_result`, or by `of_a_check` where nothing is written.
 use Prim.Native.Nat.{ℕ, ◌≤◌, ◌<◌, min}
 use mathlib.Core.Path.{◌≡◌, sym, ap, ◌∙◌}
 use mathlib.Core.List.{List, [], ◌∷◌}
@@ -532,17 +532,89 @@ module _ (window ring : List ℕ) where
   pub words_inflights_count : (answer : List ℕ) → OneOutcome (λ r answer'. leaves r (answer' ∷ []) ≡ count_leaves window ring answer)
   words_inflights_count answer = one_slice
 
--- The calls of exports: of one for each number of slices that a call may write, and of each that answers a check alone. Those of the others follow likewise.
-module _ (log settled pending : List ℕ) where
-  pub result_log_commit_to : (i : ℕ) → OneOutcome (λ r log'. leaves (refusal_of r) (log' ∷ []) ≡ commit_to_leaves log settled pending i)
-  result_log_commit_to i = of_a_result (words_log_commit_to log settled pending i)
+-- The same of exports, whose calls answer the refusal itself.
+pub result_log_new : (start startterm last : ℕ) (settled pending log : List ℕ) → OneOutcome (λ r log'. leaves (refusal_of r) (log' ∷ []) ≡ new_log_leaves start startterm last settled log)
+result_log_new start startterm last settled pending log = of_a_result (words_log_new start startterm last settled pending log)
 
-  pub result_log_maybe_commit : (i t : ℕ) (answer : List ℕ) → OneOutcome (λ r (log', answer'). leaves (refusal_of r) (log' ∷ answer' ∷ []) ≡ maybe_commit_leaves log settled pending i t answer)
-  result_log_maybe_commit i t answer = of_a_result (words_log_maybe_commit log settled pending i t answer)
+module _ (log settled pending : List ℕ) where
+  pub result_log_term : (i : ℕ) (answer : List ℕ) → OneOutcome (λ r answer'. leaves (refusal_of r) (answer' ∷ []) ≡ term_leaves log settled pending i answer)
+  result_log_term i answer = of_a_result (words_log_term log settled pending i answer)
+
+  pub result_log_first_index : (answer : List ℕ) → OneOutcome (λ r answer'. leaves (refusal_of r) (answer' ∷ []) ≡ first_index_leaves log settled pending answer)
+  result_log_first_index answer = of_a_result (words_log_first_index log settled pending answer)
+
+  pub result_log_last_index : (answer : List ℕ) → OneOutcome (λ r answer'. leaves (refusal_of r) (answer' ∷ []) ≡ last_index_leaves log settled pending answer)
+  result_log_last_index answer = of_a_result (words_log_last_index log settled pending answer)
+
+  pub result_log_last_term : (answer : List ℕ) → OneOutcome (λ r answer'. leaves (refusal_of r) (answer' ∷ []) ≡ last_term_leaves log settled pending answer)
+  result_log_last_term answer = of_a_result (words_log_last_term log settled pending answer)
+
+  pub result_log_commit_info : (answer : List ℕ) → OneOutcome (λ r answer'. leaves (refusal_of r) (answer' ∷ []) ≡ commit_info_leaves log settled pending answer)
+  result_log_commit_info answer = of_a_result (words_log_commit_info log settled pending answer)
+
+  pub result_log_is_up_to_date : (i t : ℕ) (answer : List ℕ) → OneOutcome (λ r answer'. leaves (refusal_of r) (answer' ∷ []) ≡ is_up_to_date_leaves log settled pending i t answer)
+  result_log_is_up_to_date i t answer = of_a_result (words_log_is_up_to_date log settled pending i t answer)
+
+  pub result_log_find_conflict_by_term : (i t : ℕ) (answer : List ℕ) → OneOutcome (λ r answer'. leaves (refusal_of r) (answer' ∷ []) ≡ find_conflict_by_term_leaves log settled pending i t answer)
+  result_log_find_conflict_by_term i t answer = of_a_result (words_log_find_conflict_by_term log settled pending i t answer)
 
   pub result_log_maybe_append : (idx term commit : ℕ) (run answer : List ℕ)
       → OneOutcome (λ r (pending', log', answer'). leaves (refusal_of r) (pending' ∷ log' ∷ answer' ∷ []) ≡ maybe_append_leaves log settled pending idx term commit run answer)
   result_log_maybe_append idx term commit run answer = of_a_result (words_log_maybe_append log settled pending idx term commit run answer)
+
+  pub result_log_append : (run answer : List ℕ) → OneOutcome (λ r (pending', log', answer'). leaves (refusal_of r) (pending' ∷ log' ∷ answer' ∷ []) ≡ append_leaves log settled pending run answer)
+  result_log_append run answer = of_a_result (words_log_append log settled pending run answer)
+
+  pub result_log_commit_to : (i : ℕ) → OneOutcome (λ r log'. leaves (refusal_of r) (log' ∷ []) ≡ commit_to_leaves log settled pending i)
+  result_log_commit_to i = of_a_result (words_log_commit_to log settled pending i)
+
+  pub result_log_applied_to : (i : ℕ) → OneOutcome (λ r log'. leaves (refusal_of r) (log' ∷ []) ≡ applied_to_leaves log settled pending i)
+  result_log_applied_to i = of_a_result (words_log_applied_to log settled pending i)
+
+  pub result_log_maybe_commit : (i t : ℕ) (answer : List ℕ) → OneOutcome (λ r (log', answer'). leaves (refusal_of r) (log' ∷ answer' ∷ []) ≡ maybe_commit_leaves log settled pending i t answer)
+  result_log_maybe_commit i t answer = of_a_result (words_log_maybe_commit log settled pending i t answer)
+
+  pub result_log_maybe_persist : (i t : ℕ) (answer : List ℕ) → OneOutcome (λ r (log', answer'). leaves (refusal_of r) (log' ∷ answer' ∷ []) ≡ maybe_persist_leaves log settled pending i t answer)
+  result_log_maybe_persist i t answer = of_a_result (words_log_maybe_persist log settled pending i t answer)
+
+  pub result_log_stable_entries : (i t : ℕ) → OneOutcome (λ r (settled', log'). leaves (refusal_of r) (settled' ∷ log' ∷ []) ≡ stable_entries_leaves log settled pending i t)
+  result_log_stable_entries i t = of_a_result (words_log_stable_entries log settled pending i t)
+
+  pub result_log_slice : (low high : ℕ) (answer : List ℕ) → OneOutcome (λ r answer'. leaves (refusal_of r) (answer' ∷ []) ≡ slice_leaves log settled pending low high answer)
+  result_log_slice low high answer = of_a_result (words_log_slice log settled pending low high answer)
+
+  pub result_log_entries : (i : ℕ) (answer : List ℕ) → OneOutcome (λ r answer'. leaves (refusal_of r) (answer' ∷ []) ≡ entries_leaves log settled pending i answer)
+  result_log_entries i answer = of_a_result (words_log_entries log settled pending i answer)
+
+  pub result_log_next_entries_since : (s : ℕ) (answer : List ℕ) → OneOutcome (λ r answer'. leaves (refusal_of r) (answer' ∷ []) ≡ next_entries_since_leaves log settled pending s answer)
+  result_log_next_entries_since s answer = of_a_result (words_log_next_entries_since log settled pending s answer)
+
+  pub result_log_has_next_entries_since : (s : ℕ) (answer : List ℕ) → OneOutcome (λ r answer'. leaves (refusal_of r) (answer' ∷ []) ≡ has_next_entries_since_leaves log settled pending s answer)
+  result_log_has_next_entries_since s answer = of_a_result (words_log_has_next_entries_since log settled pending s answer)
+
+pub result_majority_committed_index : (voters rows answer : List ℕ) → OneOutcome (λ r answer'. leaves (refusal_of r) (answer' ∷ []) ≡ majority_committed_index_leaves voters rows answer)
+result_majority_committed_index voters rows answer = of_a_result (words_majority_committed_index voters rows answer)
+
+pub result_joint_committed_index : (incoming outgoing rows answer : List ℕ) → OneOutcome (λ r answer'. leaves (refusal_of r) (answer' ∷ []) ≡ joint_committed_index_leaves incoming outgoing rows answer)
+result_joint_committed_index incoming outgoing rows answer = of_a_result (words_joint_committed_index incoming outgoing rows answer)
+
+pub result_majority_vote_result : (voters rows answer : List ℕ) → OneOutcome (λ r answer'. leaves (refusal_of r) (answer' ∷ []) ≡ majority_vote_result_leaves voters rows answer)
+result_majority_vote_result voters rows answer = of_a_result (words_majority_vote_result voters rows answer)
+
+pub result_joint_vote_result : (incoming outgoing rows answer : List ℕ) → OneOutcome (λ r answer'. leaves (refusal_of r) (answer' ∷ []) ≡ joint_vote_result_leaves incoming outgoing rows answer)
+result_joint_vote_result incoming outgoing rows answer = of_a_result (words_joint_vote_result incoming outgoing rows answer)
+
+pub result_joint_is_singleton : (incoming outgoing answer : List ℕ) → OneOutcome (λ r answer'. leaves (refusal_of r) (answer' ∷ []) ≡ is_singleton_leaves incoming outgoing answer)
+result_joint_is_singleton incoming outgoing answer = of_a_result (words_joint_is_singleton incoming outgoing answer)
+
+pub result_joint_contains : (incoming outgoing : List ℕ) (id : ℕ) (answer : List ℕ) → OneOutcome (λ r answer'. leaves (refusal_of r) (answer' ∷ []) ≡ contains_leaves incoming outgoing id answer)
+result_joint_contains incoming outgoing id answer = of_a_result (words_joint_contains incoming outgoing id answer)
+
+pub result_joint_ids : (incoming outgoing answer : List ℕ) → OneOutcome (λ r answer'. leaves (refusal_of r) (answer' ∷ []) ≡ joint_ids_leaves incoming outgoing answer)
+result_joint_ids incoming outgoing answer = of_a_result (words_joint_ids incoming outgoing answer)
+
+pub result_joint_clear : (incoming outgoing answer : List ℕ) → OneOutcome (λ r answer'. leaves (refusal_of r) (answer' ∷ []) ≡ clear_leaves incoming outgoing answer)
+result_joint_clear incoming outgoing answer = of_a_result (words_joint_clear incoming outgoing answer)
 
 pub result_voters_checked : (voters : List ℕ) → OneAnswer (λ r. refusal_of r ≡ voters_refusal voters)
 result_voters_checked voters = of_a_check (words_voters_checked voters)
@@ -552,6 +624,38 @@ result_joint_checked incoming outgoing = of_a_check (words_joint_checked incomin
 
 pub result_rows_checked : (rows : List ℕ) → OneAnswer (λ r. refusal_of r ≡ rows_refusal rows)
 result_rows_checked rows = of_a_check (words_rows_checked rows)
+
+pub result_leader_maybe_commit : (log settled pending : List ℕ) (term : ℕ) (incoming outgoing rows answer : List ℕ)
+    → OneOutcome (λ r (log', answer'). leaves (refusal_of r) (log' ∷ answer' ∷ []) ≡ leader_commit_leaves log settled pending term incoming outgoing rows answer)
+result_leader_maybe_commit log settled pending term incoming outgoing rows answer = of_a_result (words_leader_maybe_commit log settled pending term incoming outgoing rows answer)
+
+pub result_inflights_new : (cap : ℕ) (ring window : List ℕ) → OneOutcome (λ r window'. leaves (refusal_of r) (window' ∷ []) ≡ new_window_leaves cap ring window)
+result_inflights_new cap ring window = of_a_result (words_inflights_new cap ring window)
+
+module _ (window ring : List ℕ) where
+  pub result_inflights_set_cap : (cap : ℕ) → OneOutcome (λ r window'. leaves (refusal_of r) (window' ∷ []) ≡ set_cap_leaves window ring cap)
+  result_inflights_set_cap cap = of_a_result (words_inflights_set_cap window ring cap)
+
+  pub result_inflights_add : (inflight : ℕ) → OneOutcome (λ r (ring', window'). leaves (refusal_of r) (ring' ∷ window' ∷ []) ≡ add_leaves window ring inflight)
+  result_inflights_add inflight = of_a_result (words_inflights_add window ring inflight)
+
+  pub result_inflights_free_to : (to : ℕ) → OneOutcome (λ r window'. leaves (refusal_of r) (window' ∷ []) ≡ free_to_leaves window ring to)
+  result_inflights_free_to to = of_a_result (words_inflights_free_to window ring to)
+
+  pub result_inflights_free_first_one : OneOutcome (λ r window'. leaves (refusal_of r) (window' ∷ []) ≡ free_first_one_leaves window ring)
+  result_inflights_free_first_one = of_a_result (words_inflights_free_first_one window ring)
+
+  pub result_inflights_reset : OneOutcome (λ r window'. leaves (refusal_of r) (window' ∷ []) ≡ reset_leaves window ring)
+  result_inflights_reset = of_a_result (words_inflights_reset window ring)
+
+  pub result_inflights_maybe_free_buffer : OneOutcome (λ r window'. leaves (refusal_of r) (window' ∷ []) ≡ maybe_free_buffer_leaves window ring)
+  result_inflights_maybe_free_buffer = of_a_result (words_inflights_maybe_free_buffer window ring)
+
+  pub result_inflights_full : (answer : List ℕ) → OneOutcome (λ r answer'. leaves (refusal_of r) (answer' ∷ []) ≡ full_leaves window ring answer)
+  result_inflights_full answer = of_a_result (words_inflights_full window ring answer)
+
+  pub result_inflights_count : (answer : List ℕ) → OneOutcome (λ r answer'. leaves (refusal_of r) (answer' ∷ []) ≡ count_leaves window ring answer)
+  result_inflights_count answer = of_a_result (words_inflights_count window ring answer)
 
 -- ---- lists: what the replay programs share
 

@@ -1,4 +1,4 @@
--- The values of the voters as `looked_up` lays them: as many as there are voters, at the front of the array.
+-- The values of the voters as `look_up` lays them: as many as there are voters, at the front of the array.
 use Prim.Native.Nat.{ℕ, ◌≤◌}
 use mathlib.Core.Path.{◌≡◌, sym, ◌∙◌}
 use mathlib.Core.List.{List, map}

@@ -22,6 +22,6 @@ set_of ids = record { ids = padded voter_limit ids; count = length ids }
 abbrev pub no_voters : Voters
 no_voters = set_of []
 
--- THE PROMISE of `new`. 01, Majority: "A voter set of 0 to 7 different ids." Others are refusal 12, beside the empty set.
+-- THE PROMISE of `new`. 01, Majority: "A voter set of 0 to 7 different ids." Others are refusal 12.
 abbrev pub made : List ℕ → Answer Voters
 made ids = cond (few_distinct (length ids) voter_limit ids) (Ok (set_of ids)) (Err refusal.BrokenSet)

@@ -73,7 +73,7 @@ fn tally(voters: usize, yes: usize, missing: usize) -> VoteResult
     VoteResult::Lost
 }
 
-// How the vote of one half stands, by what its voters said: 0 missing, 1 yes, 2 no.
+// How the vote of one half stands, by what its voters said: 0 missing, 1 yes, 2 no, as `gathered` promises the votes.
 pub fn result_of(votes: &[u64]) -> VoteResult
     ensures { result ≡ numbers_result votes.now }
 {

@@ -18,7 +18,7 @@ fn look_up<R: PeerRows>(all: &mut [u64], voters: &[u64], rows: &R)
     }
 }
 
-// How far one half has committed.
+// How far one half has committed. The voters are as many as the array has room for: the bound stands here, at the vote and in joint.rt, since there is no heap.
 pub fn half_index<R: PeerRows>(voters: &[u64], rows: &R) -> Half
     requires { length voters.now ≤ voter_limit }
     ensures { result ≡ half_index (map (R.said rows.now) voters.now) }

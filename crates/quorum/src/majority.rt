@@ -77,7 +77,7 @@ pub fn ids_checked(ids: &[u64]) -> Result<(), Refusal>
     crate::ids::checked(ids, ids.len())
 }
 
-// How far a majority has acknowledged, by whatever holds the rows.
+// How far a majority has acknowledged, by whatever holds the rows. It and the vote, here and in joint.rt, are four bodies: they answer two types, and a half or two halves joined (DECISIONS.md, 41).
 #[tactic(auto, unfolding(crate::specs::Majority::committed_index_by))]
 pub fn committed_index_by<R: PeerRows>(voters: &[u64], rows: &R) -> Result<(Index, bool), Refusal>
     ensures { result ≡ committed_index_by voters.now (R.check rows.now) (R.said rows.now) }

@@ -344,7 +344,7 @@ impl Log {
         held.bounds(low.0, high.0)
     }
 
-    // The records themselves: a part of the store that holds them, empty where the bounds are refused.
+    // The records themselves: a part of the store that holds them, empty where the bounds are refused. It and `entries` and `next_entries_since` are three names of the crate over `part`.
     pub fn slice<'a>(
         self,
         settled: &'a [u64],

@@ -2,9 +2,6 @@
 ghost use Rattle.std.specs.Prelude.{◌≡◌};
 ghost use Rattle.units.specs.Refusals.{number_of, refusal_of};
 
-use std::error::Error;
-use std::fmt;
-
 // Why a call refused. A refusal is the number alone where words are all that passes, and changes nothing.
 #[derive(Clone, Copy, Debug, PartialEq, Eq)]
 pub enum Refusal {
@@ -54,25 +51,3 @@ pub fn code(check: Result<(), Refusal>) -> u64
         Err(refusal) => refusal.number(),
     }
 }
-
-impl fmt::Display for Refusal {
-    fn fmt<W: fmt::Write>(&self, f: &mut fmt::Formatter<W>) -> fmt::Result {
-        f.write_str(match self {
-            Refusal::BrokenState => "the state rules or the store lengths are broken",
-            Refusal::MisnumberedRun => "the run is not of whole records that follow on",
-            Refusal::ZeroTerm => "a term is zero",
-            Refusal::OutsideLog => "the previous index is outside the log",
-            Refusal::Mismatch => "the previous record doesn't match",
-            Refusal::CutsCommitted => "a committed record would be cut",
-            Refusal::NoRoom => "there is no room",
-            Refusal::OutOfRange => "an argument is out of range",
-            Refusal::BelowFirst => "the low bound is below the first index",
-            Refusal::NotPending => "nothing is pending, or another last record",
-            Refusal::WindowFull => "the window is full",
-            Refusal::BrokenSet => "too many ids, or one twice",
-            Refusal::BrokenWindow => "the window's state is broken",
-        })
-    }
-}
-
-impl Error for Refusal {}
