@@ -1,4 +1,4 @@
-// The questions of a joint configuration, on rows by value. Each has a promise and a law of its own (PROMISES.md).
+// The questions of a joint configuration, on rows by value. A trait over a set and a configuration would be longer than the two lines that it saves here.
 ghost use Rattle.std.specs.Prelude.{◌≡◌};
 ghost use Rattle.peer_tables.specs.Table.{table_joint_committed_index, table_joint_vote_result};
 
