@@ -1,17 +1,18 @@
--- How many flights in front are at most `to`: no more than there are, and as many as a walk along them passes, where it stops and where it ends.
+-- How many flights in front are at most `to`, found by a walk: what holds after i of them, from the start to each end.
 use Prim.Native.Nat.{ℕ, zero, suc, ◌+◌, ◌≤◌, ◌<◌}
-use mathlib.Core.Path.{◌≡◌, refl, sym, ap, subst}
+use mathlib.Core.Path.{◌≡◌, refl, sym, ap, ◌∙◌, subst}
 use mathlib.Core.Bool.{true, false}
 use mathlib.Core.List.{List, [], ◌∷◌}
 use native.Mathlib.Omega.{arith}
+use borrow.Author.Count.{below_more}
 use borrow.Author.Tests.{le-leb, lt-leb}
 use lib.Dec.{leb}
-use lib.ListN.{length}
+use lib.ListN.{length, get_or}
 use Rattle.units.specs.Lists.{listed}
 use Rattle.units.proofs.Cond.{both_ends}
 use Rattle.units.proofs.Lists.{length-listed}
-use Rattle.inflights.proofs.Places.{place_zero}
-use Rattle.inflights.specs.Ring.{InRing, place_of, flight_at, flights_from, leading}
+use Rattle.inflights.specs.Ring.{place_of, flight_at, flights_from, leading, InRing}
+use Rattle.inflights.proofs.Places.{place_in, place_zero, place_place}
 
 stops_at : (to c : ℕ) (f : ℕ → ℕ) (k i : ℕ) → i ≤ c → ((j : ℕ) → j < k + i → f j ≤ to) → (i < c → to < f (k + i)) → i ≡ leading to (listed f k c)
 unfolding listed leading
@@ -34,21 +35,30 @@ pub leading_at_most : (to start count : ℕ) (ring : List ℕ) → leading to (f
 unfolding flights_from
 leading_at_most to start count ring = omega (arith, leading_within to (flights_from start count ring), length-listed (flight_at start ring) 0 count)
 
--- The walk along the flights stops at one that is larger, or ends behind the last.
-module _ (start count : ℕ) (ring : List ℕ) (to : ℕ) where
-  pub walk_stops : (i : ℕ) → i < count → ((k : ℕ) → k < i → flight_at start ring k ≤ to) → to < flight_at start ring i → i ≡ leading to (flights_from start count ring)
-  unfolding flights_from
-  walk_stops i h w l = stops_at to count (flight_at start ring) 0 i (omega arith) (λ j p. w j (omega arith)) (λ _. subst (λ (j : ℕ). to < flight_at start ring j) (omega arith) l)
-
-  pub walk_ends : ((k : ℕ) → k < count → flight_at start ring k ≤ to) → count ≡ leading to (flights_from start count ring)
-  unfolding flights_from
-  walk_ends w = stops_at to count (flight_at start ring) 0 count (omega arith) (λ j p. w j (omega arith)) (λ h. absurd (omega arith))
-
--- A walk from place to place, as it was: what it keeps, and that it does where it begins (TRUST.md names both).
+-- After i flights: `at` is the place of the next, and all before it are at most `to`.
 pub record Walked (start count : ℕ) (ring : List ℕ) (to at i : ℕ) : Type 0 where
   pub within : i ≤ count
   pub here : at ≡ place_of start i (length ring)
   pub small : (k : ℕ) → k < i → flight_at start ring k ≤ to
 
-pub walk_begins : (start count : ℕ) (ring : List ℕ) (to : ℕ) → InRing start count (length ring) → Walked start count ring to start 0
-walk_begins start count ring to r = record { within = omega arith; here = sym (place_zero start (length ring) r.start_ring); small = λ k h. absurd (omega arith) }
+module _ (start count : ℕ) (ring : List ℕ) (to : ℕ) where
+  pub walk_begins : InRing start count (length ring) → Walked start count ring to start 0
+  walk_begins r = record { within = omega arith; here = sym (place_zero start (length ring) r.start_ring); small = λ k h. absurd (omega arith) }
+
+  pub walk_inside : (at i : ℕ) → InRing start count (length ring) → Walked start count ring to at i → i < count → at < length ring
+  walk_inside at i r w h = subst (λ (x : ℕ). x < length ring) (sym w.here) (place_in start i (length ring) (omega (arith, r.start_ring, r.count_ring)))
+
+  pub walk_goes_on : (at i next : ℕ) → Walked start count ring to at i → i < count → get_or ring at 0 ≤ to → next ≡ place_of at 1 (length ring) → Walked start count ring to next (i + 1)
+  walk_goes_on at i next w h l e = record {
+    within = omega arith;
+    here = e ∙ ap (λ (p : ℕ). place_of p 1 (length ring)) w.here ∙ place_place start i 1 (length ring);
+    small = below_more (λ (k : ℕ). flight_at start ring k ≤ to) i w.small (subst (λ (p : ℕ). get_or ring p 0 ≤ to) w.here l);
+  }
+
+  pub walk_stops : (at i : ℕ) → Walked start count ring to at i → to < get_or ring at 0 → i ≡ leading to (flights_from start count ring)
+  unfolding flights_from
+  walk_stops at i w l = stops_at to count (flight_at start ring) 0 i w.within (λ j h. w.small j (omega arith)) (λ _. subst (λ (p : ℕ). to < get_or ring p 0) (w.here ∙ ap (λ (j : ℕ). place_of start j (length ring)) (omega arith)) l)
+
+  pub walk_ends : (at i : ℕ) → Walked start count ring to at i → count ≤ i → i ≡ leading to (flights_from start count ring)
+  unfolding flights_from
+  walk_ends at i w l = stops_at to count (flight_at start ring) 0 i w.within (λ j h. w.small j (omega arith)) (λ h. absurd (omega arith))
