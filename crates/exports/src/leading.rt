@@ -12,7 +12,7 @@ use units::Term;
 use units::refusal::Refusal;
 
 // Commits what a majority of every nonempty half has acknowledged. Value: 1 for yes, 0 for no.
-#[tactic(auto, using(crate::proofs::Asked::joint_asked), unfolding(crate::specs::Words::unless_short, leader::specs::Leader::leader_commit))]
+#[tactic(auto, using(crate::proofs::Asked::joint_asked, leader::proofs::Found::as_itself), unfolding(crate::specs::Words::unless_short, leader::specs::Leader::leader_commit))]
 pub fn leader_maybe_commit(
     log: &mut [u64],
     settled: &[u64],

@@ -5,3 +5,4 @@ pub mod Freeing
 pub mod Lists
 pub mod Queue
 pub mod Stays
+pub mod InPlace

@@ -1,1 +1,2 @@
 pub mod Backed
+pub mod Found

@@ -1,5 +1,8 @@
 // What stands in the numbers of a line, one after the other. A slice stands as its length and then its words.
-ghost use Rattle.std.specs.Prelude.{◌≤◌, length};
+ghost use Rattle.std.specs.Prelude.{◌≡◌, length, min};
+ghost use Rattle.std.proofs.lemmas.List.Edits.{sets};
+
+use units::words::{copy_at, shorter};
 
 // Room for a state or an answer. A longer slice is cut, and the lists have none.
 pub const STATE: usize = 16;
@@ -38,8 +41,16 @@ impl<'a> Fields<'a> {
     // The same, copied to the front of `out`: as many as it has room for, and nothing else of it.
     pub fn copied<'b>(&mut self, out: &'b mut [u64]) -> &'b mut [u64] {
         let words = self.slice();
-        let count = words.len().min(out.len());
-        out[..count].copy_from_slice(&words[..count]);
+        let count = copy_front(out, words);
         &mut out[..count]
     }
+}
+
+// Copies words to the front of `out`, as many as it has room for, and tells how many.
+fn copy_front(out: &mut [u64], words: &[u64]) -> usize
+    ensures copied { out.new ≡ sets out.old 0 words.now }
+    ensures count { result ≡ min (length words.now) (length out.old) }
+{
+    copy_at(out, 0, words);
+    shorter(words.len(), out.len())
 }

@@ -40,14 +40,14 @@ use Rattle.raft_log.specs.Commit.{commit_to, maybe_commit, applied_to, maybe_per
 use Rattle.raft_log.specs.Settle.{stable_entries, stable_entries_store}
 use Rattle.raft_log.specs.Slice.{slice_bounds, entries_bounds, has_next_entries_since, next_entries_bounds_since, part_of}
 use Rattle.raft_log.specs.declared.Log.{Log}
-use Rattle.leader.specs.Leader.{leader_commit, commit_found}
+use Rattle.leader.specs.Leader.{leader_commit, commit_found, commit_found_as}
 use Rattle.exports.specs.Words.{Outcome, leaves}
 use Rattle.exports.specs.LogCalls.{new_log_leaves, maybe_append_leaves, append_leaves, commit_to_leaves, applied_to_leaves, maybe_commit_leaves, maybe_persist_leaves, stable_entries_leaves}
 use Rattle.exports.specs.Reads.{term_leaves, first_index_leaves, last_index_leaves, last_term_leaves, commit_info_leaves, is_up_to_date_leaves, find_conflict_by_term_leaves, slice_leaves, entries_leaves, next_entries_since_leaves, has_next_entries_since_leaves}
 use Rattle.exports.specs.QuorumCalls.{majority_committed_index_leaves, joint_committed_index_leaves, majority_vote_result_leaves, joint_vote_result_leaves, is_singleton_leaves, contains_leaves, joint_ids_leaves, clear_leaves, voters_refusal, joint_refusal, rows_refusal, leader_commit_leaves}
 use Rattle.exports.specs.WindowCalls.{new_window_leaves, set_cap_leaves, add_leaves, free_to_leaves, free_first_one_leaves, reset_leaves, maybe_free_buffer_leaves, full_leaves, count_leaves}
 use Rattle.promises.specs.Unique.{OneAnswer, OneOutcome}
-use Rattle.std.specs.Prelude.{Option, Bool, Ok, Err, MatchResult}
+use Rattle.std.specs.Prelude.{Option, Bool, Result, Ok, Err, MatchResult}
 
 -- THE LAW: a promise says that the answer is one function of the inputs, so any two answers are that function's value.
 pub one_answer : {A : Type 0} {promised : A} → OneAnswer (◌≡ promised)
@@ -405,6 +405,15 @@ module _ (log : Log) (settled pending : List ℕ) (term : Term) where
 
   pub leader_commit_found : (found : Answer (Index × Bool)) → OneAnswer (◌≡ commit_found log settled pending term.0 found)
   leader_commit_found found = one_answer
+
+  pub leader_commit_found_as : {E : Type 0} (taken : Refusal → E) (found : Result (Index × Bool) E) → OneAnswer (◌≡ commit_found_as taken log settled pending term.0 found)
+  leader_commit_found_as taken found = one_answer
+
+pub leader_of_refusal_itself : (refusal : Refusal) → OneAnswer (◌≡ refusal)
+leader_of_refusal_itself refusal = one_answer
+
+pub leader_of_refusal_number : (refusal : Refusal) → OneAnswer (◌≡ number_of refusal)
+leader_of_refusal_number refusal = one_answer
 
 -- ---- exports: every call over words, as exports_c answers it
 

@@ -53,7 +53,7 @@ impl Rows {
     pub fn checked(self) -> Result<(), Refusal>
         ensures { result ≡ plain_check self }
     {
-        crate::ids::checked(&self.ids, self.count)
+        PeerRows::checked(&self)
     }
 }
 
@@ -63,7 +63,7 @@ impl PeerRows for Rows {
     ghost said = { λ rows. value_in (ids_of rows) (values_of rows) };
 
     fn checked(&self) -> Result<(), Refusal> {
-        Rows::checked(*self)
+        crate::ids::checked(&self.ids, self.count)
     }
 
     fn said(&self, id: u64) -> u64 {

@@ -1,11 +1,12 @@
 -- The calls that only look: `term`, `first_index`, `last_index`, `last_term`, `find_conflict_by_term`, `is_up_to_date`, `commit_info`. A reader must know: each answers refusal 1, or what the definition says.
-use Rattle.std.specs.Prelude.{ℕ, zero, suc, ◌+◌, Bool, ◌&&◌, ◌||◌, cond, List, eqb, leb, ltb, Ok, Err, Some, None, Option}
+use Rattle.std.specs.Prelude.{ℕ, zero, suc, ◌+◌, ◌-◌, Bool, ◌&&◌, ◌||◌, cond, List, eqb, leb, ltb, Ok, Err, Some, None, Option}
 use Rattle.units.specs.Units.{index_of, as_term}
 use Rattle.units.specs.declared.refusal.Refusal.TheVariants as refusal
 use Rattle.units.specs.Refusals.{Answer}
 use Rattle.units.specs.declared.Index.{Index}
 use Rattle.units.specs.declared.Term.{Term}
 use Rattle.raft_log.specs.declared.Log.{Log}
+use Rattle.raft_log.specs.Words.{store_term}
 use Rattle.raft_log.specs.State.{last_of, broken, term_at}
 
 -- THE PROMISE of `term(i)`: "the record's term; the start's term at start; 0 outside [start, last]".
@@ -27,6 +28,10 @@ last_term l settled pending = cond (broken l settled pending) (Err refusal.Broke
 -- The term at j is at most t: "term(j) <= t".
 abbrev pub at_most : Log → List ℕ → List ℕ → ℕ → ℕ → Bool
 at_most l settled pending t j = leb (term_at l settled pending j) t
+
+-- Record k of a store, counted from 1, has a term that is at most t: "term(j) <= t", among the records of one store.
+abbrev pub record_at_most : List ℕ → ℕ → ℕ → Bool
+record_at_most s t k = leb (store_term s (k - 1)) t
 
 -- The largest number from i down that p holds of, 0 where it holds of none above. For "the largest j <= i with term(j) <= t".
 unfoldable pub last_down : (ℕ → Bool) → ℕ → ℕ

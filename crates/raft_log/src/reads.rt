@@ -1,10 +1,11 @@
 // What the reading calls answer of a log in good state, and the parts of the stores.
-ghost use Rattle.std.specs.Prelude.{◌≡◌, Ok};
+ghost use Rattle.std.specs.Prelude.{◌≡◌, ◌≤◌, ◌<◌, Ok};
+ghost use Rattle.raft_log.specs.State.{last_of};
 ghost use Rattle.raft_log.specs.Look.{at_most, last_down, by_term_in};
 ghost use Rattle.raft_log.specs.Slice.{in_store, slice_in, has_next, store_part};
 
 use crate::held::Held;
-use crate::words::room;
+use crate::words::{last_at_most, room};
 use crate::{Bounds, Log};
 use units::refusal::Refusal;
 use units::{Index, Term};
@@ -22,6 +23,38 @@ impl Held<'_> {
         0
     }
 
+    // The same of an index in the log, store by store: `last_below` asks at each index which store holds it.
+    fn last_in_stores(self, i: u64, t: u64) -> u64
+        requires { i ≤ last_of self.log }
+        ensures { result ≡ last_down (at_most self.entry.log self.entry.settled.now self.entry.pending.now t) i }
+    {
+        let before = self.log.offset.0 - 1;
+        if i <= before {
+            return self.last_in_settled(i, t);
+        }
+        let k = last_at_most(self.pending, i - before, t);
+        if 0 < k {
+            return before + k;
+        }
+        self.last_in_settled(before, t)
+    }
+
+    // The same of an index before the pending records. At the start and below it `last_below` takes two steps at most, since below the start the term is 0.
+    fn last_in_settled(self, i: u64, t: u64) -> u64
+        requires { i < self.log.offset.0 }
+        ensures { result ≡ last_down (at_most self.entry.log self.entry.settled.now self.entry.pending.now t) i }
+    {
+        let start = self.log.start.0;
+        if i <= start {
+            return self.last_below(i, t);
+        }
+        let k = last_at_most(self.settled, i - start, t);
+        if 0 < k {
+            return start + k;
+        }
+        self.last_below(start, t)
+    }
+
     // That index and its term, or i with no term where i is beyond the last.
     #[tactic(auto, unfolding(crate::specs::Look::by_term_in))]
     pub fn by_term(self, i: u64, t: u64) -> (Index, Option<Term>)
@@ -30,7 +63,7 @@ impl Held<'_> {
         if self.last() < i {
             return (Index(i), None);
         }
-        let j = self.last_below(i, t);
+        let j = self.last_in_stores(i, t);
         (Index(j), Some(Term(self.term(j))))
     }
 

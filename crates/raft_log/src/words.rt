@@ -1,6 +1,7 @@
 // The words of a record: where they stand in a store and in a run. The leaf under both stores (log_unstable.rs and the crate's Storage).
 ghost use Rattle.std.specs.Prelude.{◌≡◌, ◌+◌, ◌*◌, ◌≤◌, ◌<◌, length};
 ghost use Rattle.raft_log.specs.Words.{run_words, room, store_term, run_count, run_index, run_term, record_of, put_record, put_run, first_from, other_term};
+ghost use Rattle.raft_log.specs.Look.{last_down, record_at_most};
 
 use crate::Log;
 
@@ -82,4 +83,17 @@ pub fn same_terms(store: &[u64], at: u64, run: &[u64], k: u64, n: u64) -> u64
         }
     }
     n
+}
+
+// How many of the first n records of a store come up to the last whose term is at most t, 0 where none is.
+pub fn last_at_most(store: &[u64], n: u64, t: u64) -> u64
+    requires { n ≤ room store.now }
+    ensures { result ≡ last_down (record_at_most store.now t) n }
+{
+    for k in (0..n).rev() {
+        if store_term(store, k) <= t {
+            return k + 1;
+        }
+    }
+    0
 }
