@@ -63,20 +63,12 @@ pub fn commit_found<E: OfRefusal>(
     ensures { result ≡ commit_found_as E.of_refusal log settled.now pending.now term.0 found }
 {
     match found {
-        Ok((index, _free)) => told(log.maybe_commit(settled, pending, index, term)),
+        Ok((index, _free)) => log
+            .maybe_commit(settled, pending, index, term)
+            .map_err(|refusal| E::of_refusal(refusal)),
         Err(refused) => match log.last_index(settled, pending) {
             Ok(_last) => Err(refused),
             Err(broken) => Err(E::of_refusal(broken)),
         },
-    }
-}
-
-// An answer of the log, with its refusal as the caller takes it.
-fn told<E: OfRefusal>(said: Result<Option<Log>, Refusal>) -> Result<Option<Log>, E>
-    ensures { result ≡ told_as E.of_refusal said }
-{
-    match said {
-        Ok(decided) => Ok(decided),
-        Err(refusal) => Err(E::of_refusal(refusal)),
     }
 }

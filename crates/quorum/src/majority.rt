@@ -52,6 +52,13 @@ impl Voters {
     pub fn checked(self) -> Result<(), Refusal>
         ensures { result ≡ voters_check self }
     {
+        self.lent_checked()
+    }
+
+    // The same of a set that stands in another value, which it does not copy.
+    pub(crate) fn lent_checked(&self) -> Result<(), Refusal>
+        ensures { result ≡ voters_check self.now }
+    {
         crate::ids::checked(&self.ids, self.count)
     }
 
